@@ -1,33 +1,27 @@
 -- The reply to a command: its text and its status, which are this project's own.
 use Rattle.std.specs.Prelude.{◌≡◌, ℕ, ◌<◌, List, [], ◌∷◌, ◌++◌, map, length, Option}
 use Rattle.std.specs.Prelude.{Bool, true, false, None}
-use Rattle.std.specs.Prelude.{unwrap_or, Result, MatchOption, ◌⊎◌, codes, decimal}
-use Rattle.std.specs.List.{flat_map}
+use Rattle.std.specs.Prelude.{◌⊎◌, codes}
 use Rattle.std.specs.Io.KnownBytes.{Appends}
 use Rattle.mm_text.specs.declared.fault.LoadRule.TheVariants.{F3}
 use Rattle.mm_text.specs.Statement.{PlainStatement}
 use Rattle.mm_text.specs.Files.{PlainFile}
 use Rattle.mm_text.specs.Device.{AppendsBeginning}
-use Rattle.mm_code.specs.Words.{tokens_in}
 use Rattle.mm_frame.specs.Sentence.{Sentence, sentence_of}
 use Rattle.mm_step.specs.declared.fault.ProofRule.{ProofRule}
-use Rattle.mm_step.specs.declared.fault.ProofRule.TheVariants.{L1}
 use Rattle.mm_proof.specs.KnownPrefix.{known_prefix}
 use Rattle.mm_proof.specs.Tokens.{is_incomplete}
 use Rattle.mm_proof.specs.UnderProfile.{IsProvedUnder, IsPrefixAllowedUnder}
 use Rattle.mm_step.specs.declared.profile.Profile.{Profile}
 use Rattle.mm_step.specs.declared.profile.Profile.TheVariants.{Lenient}
-use Rattle.mm_check.specs.declared.rule.Rule.{Rule}
-use Rattle.mm_check.specs.declared.rule.Rule.TheVariants as rules
-use Rattle.mm_check.specs.declared.rule.AskRule.{AskRule}
-use Rattle.mm_check.specs.declared.rule.AskRule.TheVariants.{A1, A2, A3, L2}
-use Rattle.mm_check.specs.RuleCodes.{ask_code, code_of}
-use Rattle.mm_check.specs.declared.fault.CheckFault.{CheckFault}
-use Rattle.mm_check.specs.Conclusion.{Conclusion}
-use Rattle.mm_check.specs.Answer.{verdict_of_answer, labels_at}
-use Rattle.mm_check.specs.AllAxioms.{ReportLine, AreReportLines}
-use Rattle.mm_check.specs.declared.ask.AskFault.{AskFault}
-use Rattle.mm_check.specs.declared.ask.AskFault.TheVariants as ask
+use Rattle.mm_rules.specs.declared.rule.Rule.{Rule}
+use Rattle.mm_rules.specs.declared.rule.Rule.TheVariants as rules
+use Rattle.mm_rules.specs.declared.rule.AskRule.{AskRule}
+use Rattle.mm_rules.specs.declared.rule.AskRule.TheVariants.{L2}
+use Rattle.mm_rules.specs.Answer.{labels_at}
+use Rattle.mm_axioms.specs.AllAxioms.{ReportLine, AreReportLines}
+use Rattle.mm_rules.specs.declared.ask.AskFault.{AskFault}
+use Rattle.mm_rules.specs.declared.ask.AskFault.TheVariants as ask
 use Rattle.mm_check.specs.declared.command.Command.{Command}
 use Rattle.mm_check.specs.declared.command.Command.TheVariants.{Whole, About, Lone, File, Shorter}
 use Rattle.mm_check.specs.declared.question.Question.{Question}
@@ -38,74 +32,35 @@ use Rattle.mm_check.specs.declared.question.WholeQuestion.{WholeQuestion}
 use Rattle.mm_check.specs.declared.question.WholeQuestion.TheVariants.{Check, Faults, Why}
 use Rattle.mm_check.specs.declared.question.WholeQuestion.TheVariants.{Axioms as AllAxioms}
 use Rattle.mm_check.specs.declared.question.WholeQuestion.TheVariants.{Shorter as AllShorter}
-use Rattle.mm_check.specs.Users.{IsAssertionFault, AreUsers}
-use Rattle.mm_check.specs.Rests.{IsAskFault, IsReport}
-use Rattle.mm_check.specs.Alone.{IsRefusedBefore, IsNoTheorem, IsTheoremAt, HasProofTokens}
-use Rattle.mm_check.specs.Alone.{BreaksTokens, AreStepsBefore}
-use Rattle.mm_check.specs.Explained.{Detail, IsTokensFault, AreDetails, AreLeftOver, details_text}
-use Rattle.mm_check.specs.Explained.{judged_tokens}
-use Rattle.mm_check.specs.Shorter.{IsMinimized}
-use Rattle.mm_check.specs.Shown.{ShowsProof, IsListingText}
-use Rattle.mm_check.specs.ShownUses.{ShowsUses}
-use Rattle.mm_check.specs.declared.form.Form.{Form}
-use Rattle.mm_check.specs.declared.form.Form.TheVariants as form
-use Rattle.mm_check.specs.Forms.{IsNormalOf, IsPackedOf, IsSmallOf, IsNormalFault}
-use Rattle.mm_check.specs.Compared.{IsCompared, IsSameFault}
-use Rattle.mm_check.specs.Saved.{IsSaved, FitsSaved, IsSaveFault}
-use Rattle.mm_check.specs.Stated.{IsStatementFault, TellsStatement}
-use Rattle.mm_check.specs.AllSaved.{IsAllSaved, IsFirstTooLong, IsAllSaveFault}
-use Rattle.mm_check.specs.AllShorter.{IsAllShortened, IsAllShorterFault, ShorterLine}
-use Rattle.mm_check.specs.AllShorter.{AreShorterLines, shorter_text}
-use Rattle.mm_check.specs.Verdict.{PlainRefusal, Verdict, Load, Refused, Incomplete, Yes}
-use Rattle.mm_check.specs.Verdict.{HasVerdict, AreAccepted, labels_of, proof_of, sentences}
-use Rattle.mm_check.specs.Verdict.{refusal_of}
-use Rattle.mm_check.specs.Faults.{HaveFaults, refusal_in}
-use Rattle.mm_check.specs.Why.{IsFaultPlace, IsTextPlace, TellsFaults, head_at, head_text}
-pub use Rattle.mm_check.specs.Places.{name_of}
-
--- A line of a refusal begins with `limit` for a limit that was passed, else with `no`.
-abbrev pub refusal_word : Rule → List ℕ
-refusal_word (rules.Proof L1) = codes "limit"
-refusal_word rule = codes "no"
-
--- a line: a word, then a space and a word for each of the others, and a line feed
-abbrev pub line_with : List ℕ → List (List ℕ) → List ℕ
-line_with word [] = word ++ codes "\n"
-line_with word (other ∷ others) = word ++ codes " " ++ line_with other others
-
--- a line for each label
-abbrev pub lines_of : List (List ℕ) → List ℕ
-lines_of labels = flat_map (λ label. label ++ codes "\n") labels
-
--- the text of a verdict
-abbrev pub text_of : List PlainFile → Verdict → List ℕ
-text_of files (Load rule) = line_with (codes "load") (code_of rule ∷ [])
-text_of files (Refused r) =
-    line_with (refusal_word r.rule)
-    (name_of files r.file ∷ decimal r.line ∷ unwrap_or r.label (codes "-") ∷ code_of r.rule
-    ∷ decimal r.step ∷ [])
-text_of files (Incomplete labels) =
-    line_with (codes "incomplete") (decimal (length labels) ∷ []) ++ lines_of labels
-text_of files (Yes statements proofs) =
-    line_with (codes "yes")
-    (decimal statements ∷ codes "statements" ∷ decimal proofs ∷ codes "proofs" ∷ [])
-
--- the status of a refusal: 4 for a limit that was passed, else 1
-abbrev pub refusal_status : Rule → ℕ
-refusal_status (rules.Proof L1) = 4
-refusal_status rule = 1
-
--- the status of a verdict
-abbrev pub status_of : Verdict → ℕ
-status_of (Load rule) = 4
-status_of (Refused r) = refusal_status r.rule
-status_of (Incomplete labels) = 3
-status_of (Yes statements proofs) = 0
-
--- The text is that of the verdict that the answer tells.
-abbrev pub Tells : List PlainFile → Result Conclusion CheckFault → List ℕ → Type 0
-Tells files answer text =
-    MatchOption (verdict_of_answer answer) ⊥ (λ verdict. text ≡ text_of files verdict)
+use Rattle.mm_axioms.specs.Users.{IsAssertionFault, AreUsers}
+use Rattle.mm_rules.specs.Rests.{IsAskFault, IsReport}
+use Rattle.mm_verdict.specs.Alone.{IsRefusedBefore, IsNoTheorem, IsTheoremAt}
+use Rattle.mm_check.specs.Alone.{AreStepsBefore}
+use Rattle.mm_facts.specs.Explained.{Detail, IsTokensFault, AreDetails, AreLeftOver}
+use Rattle.mm_facts.specs.Explained.{judged_tokens}
+use Rattle.mm_render.specs.Shorter.{IsMinimized}
+use Rattle.mm_render.specs.Shown.{ShowsProof, IsListingText}
+use Rattle.mm_render.specs.ShownUses.{ShowsUses}
+use Rattle.mm_verdict.specs.declared.form.Form.{Form}
+use Rattle.mm_verdict.specs.declared.form.Form.TheVariants as form
+use Rattle.mm_render.specs.Forms.{IsNormalOf, IsPackedOf, IsSmallOf, IsNormalFault}
+use Rattle.mm_render.specs.Compared.{IsCompared}
+use Rattle.mm_rules.specs.Compared.{IsSameFault}
+use Rattle.mm_render.specs.Saved.{IsSaved, FitsSaved, IsSaveFault}
+use Rattle.mm_verdict.specs.Stated.{IsStatementFault, TellsStatement}
+use Rattle.mm_save.specs.AllSaved.{IsAllSaved, IsFirstTooLong, IsAllSaveFault}
+use Rattle.mm_minimize.specs.AllShorter.{IsAllShortened, IsAllShorterFault, ShorterLine}
+use Rattle.mm_minimize.specs.AllShorter.{AreShorterLines, shorter_text}
+use Rattle.mm_rules.specs.Verdict.{PlainRefusal, Verdict, Load, Refused, Incomplete, Yes}
+use Rattle.mm_rules.specs.Verdict.{HasVerdict, AreAccepted, labels_of, proof_of, sentences}
+use Rattle.mm_rules.specs.Verdict.{refusal_of}
+use Rattle.mm_verdict.specs.Faults.{HaveFaults, refusal_in}
+use Rattle.mm_facts.specs.Why.{IsFaultPlace}
+use Rattle.mm_explain.specs.Why.{TellsFaults, head_text}
+use Rattle.mm_rules.specs.Places.{name_of}
+use Rattle.mm_verdict.specs.Reply.{IsAskReply, line_with, lines_of, refusal_status, refusals_text, status_of, text_of}
+use Rattle.mm_explain.specs.Reply.{IsExplained, IsTryReply}
+use Rattle.mm_axioms.specs.Reply.{lines_text}
 
 -- This is the text and the status of the reply to `check` in the profile.
 pub record IsReply (profile : Profile) (files : List PlainFile) (text : List ℕ)
@@ -114,10 +69,6 @@ pub record IsReply (profile : Profile) (files : List PlainFile) (text : List ℕ
   pub holds : HasVerdict profile files verdict
   pub said : text ≡ text_of files verdict
   pub ends : status ≡ status_of verdict
-
--- a line for each refusal
-abbrev pub refusals_text : List PlainFile → List PlainRefusal → List ℕ
-refusals_text files refusals = flat_map (λ r. text_of files (Refused r)) refusals
 
 -- This is the text and the status of the reply to `faults` in the profile: where `check` tells no
 -- refusal, those of its reply; else a line for each fault, and the status of the first.
@@ -140,10 +91,6 @@ IsWhyReply profile files text status =
     × HaveFaults profile files (first ∷ others) × TellsFaults profile files (first ∷ others) text
     × (status ≡ refusal_status first.rule))
 
--- the text of lines that tell what theorems rest on
-abbrev pub lines_text : List ReportLine → List ℕ
-lines_text lines = flat_map (λ line. line_with line.word line.others) lines
-
 -- ---- questions
 
 -- the verdict is that the files are refused
@@ -160,33 +107,6 @@ pub record IsRefused (files : List PlainFile) (text : List ℕ) (status : ℕ) :
   pub refuses : IsRefusal verdict
   pub said : text ≡ text_of files verdict
   pub ends : status ≡ status_of verdict
-
--- the status where a question has no answer: 3 where a proof is incomplete, 4 where a limit was
--- passed, else 1
-abbrev pub ask_status : AskRule → ℕ
-ask_status A1 = 1
-ask_status A2 = 1
-ask_status A3 = 3
-ask_status L2 = 4
-
--- the status where a proof's text that is handed in is refused: 3 where it is incomplete, 4 where a
--- limit was passed, else 1
-abbrev pub text_status : Rule → ℕ
-text_status (rules.Ask A3) = 3
-text_status (rules.Proof L1) = 4
-text_status (rules.Load F3) = 4
-text_status rule = 1
-
--- the text and the status where a question about a label has no answer, or a file with this name in
--- the place of the label isn't written anew
-abbrev pub IsAskReply : AskFault → List ℕ → List ℕ → ℕ → Type 0
-IsAskReply (ask.Rule rule) label text status =
-    (text ≡ line_with (codes "ask") (ask_code rule ∷ label ∷ [])) × (status ≡ ask_status rule)
-IsAskReply (ask.Text rule step) label text status =
-    (text ≡ line_with (codes "text") (code_of rule ∷ decimal step ∷ [])) × (status ≡ text_status rule)
-IsAskReply ask.F3 label text status =
-    (text ≡ line_with (codes "ask") (codes "F3" ∷ label ∷ [])) × (status ≡ 4)
-IsAskReply ask.Memory label text status = ⊥
 
 -- the text of a report: a line for each axiom, and then one for each unproved theorem, after a
 -- question mark
@@ -369,56 +289,6 @@ IsNotFoundReply files label text status =
     × (text ≡ text_of files (Refused refusal)) × (status ≡ refusal_status refusal.rule))
     ⊎ ((rule : AskRule) × IsNoTheorem files label rule
     × IsAskReply (ask.Rule rule) label text status))
-
--- the text begins with these lines, which the text of the facts follows
-abbrev pub IsExplained : (lines : List ℕ) → List Detail → (text : List ℕ) → Type 0
-IsExplained lines details text = text ≡ lines ++ details_text details
-
--- The text in a file, or what is known of it where it is incomplete, is at fault as a proof of the
--- `$p`: the line of the first fault, and what explains it: the first line, with the place in that
--- file, and the facts.
-pub record IsTriedFault (proof : PlainFile) (before : List Sentence) (s : Sentence)
-    (text : List ℕ) (status : ℕ) : Type 0 where
-  pub rule : ProofRule
-  pub step : ℕ
-  pub fault : IsTokensFault Lenient before s (tokens_in proof.bytes) rule step
-  pub line : List ℕ
-  pub told : IsAskReply (ask.Text (rules.Proof rule) step) [] line status
-  pub at : ℕ
-  pub place : IsTextPlace Lenient before s proof.bytes rule step at
-  pub details : List Detail
-  pub explained : AreDetails Lenient before s (tokens_in proof.bytes) rule step details
-  pub said : IsExplained
-      (line ++ head_at (proof ∷ []) 0 at (rules.Proof rule) None step) details text
-
--- They are incomplete, and their known prefix breaks no rule: the line of that, and what the prefix
--- leaves on the stack.
-pub record IsTriedPrefix (before : List Sentence) (s : Sentence) (tokens : List (List ℕ))
-    (text : List ℕ) (status : ℕ) : Type 0 where
-  pub incomplete : is_incomplete tokens ≡ true
-  pub allowed : IsPrefixAllowedUnder Lenient before s tokens
-  pub line : List ℕ
-  pub told : IsAskReply (ask.Text (rules.Ask A3) 0) [] line status
-  pub details : List Detail
-  pub left : AreLeftOver Lenient before s tokens details
-  pub said : IsExplained line details text
-
--- the reply what the tokens of the text in a file are as a proof of the `$p`
-abbrev pub IsTokensReply : (proof : PlainFile) → (before : List Sentence) → Sentence → List ℕ → ℕ
-    → Type 0
-IsTokensReply proof before s text status =
-    ((is_incomplete (tokens_in proof.bytes) ≡ false)
-    × IsProvedUnder Lenient before s (tokens_in proof.bytes)
-    × (text ≡ line_with (codes "proof") []) × (status ≡ 0))
-    ⊎ (IsTriedPrefix before s (tokens_in proof.bytes) text status
-    ⊎ IsTriedFault proof before s text status)
-
--- the reply whether the text in a file is a proof of the `$p`
-abbrev pub IsTryReply : (proof : PlainFile) → (before : List Sentence) → Sentence → List ℕ → ℕ
-    → Type 0
-IsTryReply proof before s text status =
-    ((rule : Rule) × BreaksTokens rule proof.bytes × IsAskReply (ask.Text rule 0) [] text status)
-    ⊎ (HasProofTokens proof.bytes × IsTokensReply proof before s text status)
 
 -- The proof of the `$p`, or what is known of it, is at fault: the lines of the steps before the
 -- fault, the refusal, and what explains it: the first line, with the place, and the facts.

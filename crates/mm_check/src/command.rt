@@ -3,23 +3,21 @@
 ghost use Rattle.std.specs.Prelude.{◌≡◌, ◌+◌, ◌<◌, ◌↔◌, map, IfOk, IsErrOf};
 ghost use Rattle.mm_text.specs.Files.{plain_file};
 ghost use Rattle.mm_text.specs.Device.{faults_of, inner_of};
-ghost use Rattle.mm_check.specs.Status.{number_of};
+ghost use Rattle.mm_rules.specs.Status.{number_of};
 ghost use Rattle.mm_check.specs.Reply.{AsksHanded, IsReplyTo, Writes};
 ghost use Rattle.mm_check.specs.Reply.{WritesBeginningOf};
 ghost use Rattle.mm_check.specs.declared.command.RunFault.TheVariants.{Memory};
 
 use crate::alone::lone_reply;
-use crate::form::Form;
 use crate::question::{
     LoneQuestion, Question, WholeQuestion, all_saved_reply, question_reply, whole_reply,
 };
-use crate::reply::Reply;
-use crate::shorter_file::Wanted;
 use crate::shorter_reply::shorter_file_reply;
-use crate::status::Status;
-use crate::watch::{Unwatched, Watch};
+use mm_minimize::Wanted;
+use mm_rules::Status;
 use mm_step::Profile;
 use mm_text::{Counted, File, Seed};
+use mm_verdict::{Form, Reply, Unwatched, Watch};
 use std::alloc::{AllocError, Global};
 use std::io::Write;
 use thiserror::Error;

@@ -13,31 +13,24 @@ ghost use Rattle.mm_step.specs.Steps.{AreSteps, IsProofNumber};
 ghost use Rattle.mm_proof.specs.Tokens.{is_incomplete};
 ghost use Rattle.mm_proof.specs.UnderProfile.{IsPrefixAllowedUnder};
 ghost use Rattle.mm_check.specs.Alone.{AreStepsBefore};
-ghost use Rattle.mm_check.specs.Explained.{judged_tokens};
-ghost use Rattle.mm_check.specs.Explained.{IsTokensFault};
-ghost use Rattle.mm_check.specs.Mirror.Reached.{HasReached};
+ghost use Rattle.mm_facts.specs.Explained.{judged_tokens};
+ghost use Rattle.mm_facts.specs.Explained.{IsTokensFault};
+ghost use Rattle.mm_explain.specs.Mirror.Reached.{HasReached};
 ghost use Rattle.mm_check.specs.Reply.{IsKnownFault, IsKnownPrefix, IsKnownReply};
-ghost use Rattle.mm_check.specs.Shown.{IsListingText};
-ghost use Rattle.mm_check.specs.Status.{number_of};
-ghost use Rattle.mm_check.specs.Verdict.{proof_of};
+ghost use Rattle.mm_render.specs.Shown.{IsListingText};
+ghost use Rattle.mm_rules.specs.Status.{number_of};
+ghost use Rattle.mm_rules.specs.Verdict.{proof_of};
 
-use crate::details::{cause_of, push_cause, push_left_over};
-use crate::fault_places::fault_place;
-use crate::judge::refusal;
-use crate::position::LineCount;
-use crate::read_to::Reached;
-use crate::reply::{Reply, push_refusal, refusal_status};
-use crate::reread::proof_of;
-use crate::rule::Rule;
-use crate::shown::text_of;
-use crate::status::Status;
-use crate::tried::judged_steps;
-use crate::why::push_head;
+use mm_explain::{Reached, judged_steps, push_head};
+use mm_facts::{cause_of, fault_place, push_cause, push_left_over};
 use mm_frame::{Book, LabelId};
 use mm_listing::halt_of;
 use mm_proof::Steps;
+use mm_render::text_of;
+use mm_rules::{LineCount, Rule, Status, refusal};
 use mm_step::{Profile, ProofFault, ProofRule};
 use mm_text::File;
+use mm_verdict::{Reply, proof_of, push_refusal, refusal_status};
 use std::alloc::{AllocError, Global};
 
 /// The reply where the proof, or what is known of it, is at fault: the lines of the steps before
@@ -156,11 +149,7 @@ fn steps_reply(
 }
 
 /// The reply how the theorem is proved, as far as that is known.
-pub(crate) fn known_reply(
-    alloc: Global,
-    files: &[File],
-    reached: &Reached,
-) -> Result<Reply, AllocError>
+pub fn known_reply(alloc: Global, files: &[File], reached: &Reached) -> Result<Reply, AllocError>
     requires { (label : List ℕ) × HasReached (map plain_file files.now) label reached.now }
     ensures { IfOk result (λ reply. (label : List ℕ)
         (r : HasReached (map plain_file files.now) label reached.now)

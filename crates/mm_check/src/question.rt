@@ -7,13 +7,15 @@ ghost use Rattle.mm_text.specs.Statement.{PlainStatement};
 ghost use Rattle.mm_text.specs.Files.{plain_file};
 ghost use Rattle.mm_text.specs.Reading.{Reads};
 ghost use Rattle.mm_step.specs.declared.profile.Profile.TheVariants.{Lenient};
-ghost use Rattle.mm_check.specs.Answer.{labels_at, IsVerdict, KeepsLabels, KeepsFiles};
-ghost use Rattle.mm_check.specs.Answer.{plain_refusal, verdict_of_conclusion};
-ghost use Rattle.mm_check.specs.Faults.{AreAllFaults};
-ghost use Rattle.mm_check.specs.Verdict.{HasVerdict, labels_of};
-ghost use Rattle.mm_check.specs.Status.{number_of};
-ghost use Rattle.mm_check.specs.Reply.{lines_of, IsReply, IsAxiomsReply, IsShowReply};
-ghost use Rattle.mm_check.specs.Reply.{IsFaultsReply, IsWhyReply, refusals_text, refusal_status};
+ghost use Rattle.mm_rules.specs.Answer.{labels_at, IsVerdict, KeepsLabels, KeepsFiles};
+ghost use Rattle.mm_rules.specs.Answer.{plain_refusal, verdict_of_conclusion};
+ghost use Rattle.mm_verdict.specs.Faults.{AreAllFaults};
+ghost use Rattle.mm_rules.specs.Verdict.{HasVerdict, labels_of};
+ghost use Rattle.mm_rules.specs.Status.{number_of};
+ghost use Rattle.mm_verdict.specs.Reply.{lines_of};
+ghost use Rattle.mm_check.specs.Reply.{IsReply, IsAxiomsReply, IsShowReply};
+ghost use Rattle.mm_check.specs.Reply.{IsFaultsReply, IsWhyReply};
+ghost use Rattle.mm_verdict.specs.Reply.{refusals_text, refusal_status};
 ghost use Rattle.mm_check.specs.Reply.{IsNormalReply, IsPackedReply, IsSavedReply, IsSameReply};
 ghost use Rattle.mm_check.specs.Reply.{IsSmallReply, IsAllSavedReply, IsAnswerTo, IsFormReply};
 ghost use Rattle.mm_check.specs.Reply.{IsWholeReply, same_text, same_status, IsQuestionReply};
@@ -21,33 +23,25 @@ ghost use Rattle.mm_check.specs.Reply.{report_text as report_text_at};
 ghost use Rattle.mm_check.specs.Reply.{report_status as report_status_at, IsUsersReply};
 ghost use Rattle.mm_check.specs.Reply.{IsUsesReply, IsAllAxiomsReply, IsStatementReply};
 ghost use Rattle.mm_step.specs.declared.profile.Profile.{Profile};
-ghost use Rattle.mm_check.specs.Users.{AreUsers, IsAssertionFault};
+ghost use Rattle.mm_axioms.specs.Users.{AreUsers, IsAssertionFault};
 
-use crate::asked_texts::{is_same_proof, normal_form, packed_form, proof_listing, saved_file, small_form, statement_text, uses_listing};
-use crate::asked_axioms::{all_users, axioms, direct_users};
-use crate::all_axioms::all_axioms_text;
-use crate::ask::AskFault;
-use crate::checked::Checked;
-use crate::fault::{CheckFault, Refusal};
-use crate::faults::{AllFaults, all_faults};
-use crate::form::Form;
-use crate::position::name_of;
-use crate::reply::{
-    Reply, accepted_reply, ask_reply, conclusion_status, fault_reply, first_status, push_label,
-    push_labels, push_refusals, verdict_reply,
-};
-use crate::report::Report;
-use crate::rule::{AskRule, Rule};
-use crate::save_all::saved_all;
-use crate::save_fault::SaveFault;
 use crate::shorter_reply::{minimized_answer, shorter_reply};
-use crate::status::Status;
-use crate::verdict::{check, check_with};
-use crate::watch::Watch;
-use crate::why::{Unaccepted, explained};
+use mm_axioms::{Report, all_axioms_text, all_users, axioms, direct_users};
+use mm_explain::{Unaccepted, explained};
 use mm_frame::LabelId;
+use mm_render::{
+    SaveFault, is_same_proof, normal_form, packed_form, proof_listing, saved_file, small_form,
+    statement_text, uses_listing,
+};
+use mm_rules::{AskFault, AskRule, CheckFault, Refusal, Rule, Status, name_of};
+use mm_save::saved_all;
 use mm_step::Profile;
 use mm_text::{File, Seed};
+use mm_verdict::{
+    AllFaults, Checked, Form, Reply, Watch, accepted_reply, all_faults, ask_reply, check,
+    check_with, conclusion_status, fault_reply, first_status, push_label, push_labels,
+    push_refusals, verdict_reply,
+};
 use std::alloc::{AllocError, Global};
 
 /// A question about the whole database.

@@ -5,24 +5,19 @@ ghost use Rattle.mm_text.specs.Statement.{PlainStatement};
 ghost use Rattle.mm_text.specs.Files.{plain_file};
 ghost use Rattle.mm_text.specs.Reading.{Reads};
 ghost use Rattle.mm_step.specs.declared.profile.Profile.TheVariants.{Lenient};
-ghost use Rattle.mm_check.specs.Answer.{IsVerdict, KeepsLabels, KeepsFiles};
-ghost use Rattle.mm_check.specs.Status.{number_of};
+ghost use Rattle.mm_rules.specs.Answer.{IsVerdict, KeepsLabels, KeepsFiles};
+ghost use Rattle.mm_rules.specs.Status.{number_of};
 ghost use Rattle.mm_check.specs.Reply.{IsMinimizedReply, IsQuestionReply, IsShorterReply};
 ghost use Rattle.mm_check.specs.Reply.{IsAllShortenedReply};
 ghost use Rattle.mm_step.specs.declared.profile.Profile.{Profile};
 
-use crate::ask::AskFault;
-use crate::checked::Checked;
-use crate::fault::CheckFault;
-use crate::minimize::{minimized_by_library, minimized_file, minimized_list};
-use crate::position::name_of;
-use crate::reply::{Reply, ask_reply, conclusion_status, verdict_reply};
-use crate::shorter_file::Wanted;
-use crate::status::Status;
-use crate::verdict::{check, check_with};
-use crate::watch::Watch;
+use mm_minimize::{Wanted, minimized_by_library, minimized_file, minimized_list};
+use mm_rules::{AskFault, CheckFault, Status, name_of};
 use mm_step::Profile;
 use mm_text::{File, Seed};
+use mm_verdict::{
+    Checked, Reply, Watch, ask_reply, check, check_with, conclusion_status, verdict_reply,
+};
 use std::alloc::{AllocError, Global};
 
 /// The reply of a database in which nothing is at fault to the question for a shortest proof.

@@ -11,7 +11,7 @@ use Rattle.mm_frame.specs.Sentence.{Sentence, sentence_of}
 use Rattle.mm_frame.specs.Numbers.{labelled_sentences}
 use Rattle.mm_frame.specs.Taken.{TakenAs, next_id}
 use Rattle.mm_step.specs.Steps.{IsProofNumber}
-use Rattle.mm_check.proofs.Verdicts.JudgedProofs.{labelled_said}
+use Rattle.mm_rules.proofs.Judgements.JudgedProofs.{labelled_said}
 
 take_prefix : {X : Type 0} (xs ys : List X) → take (length xs) (xs ++ ys) ≡ xs
 take_prefix [] ys = refl

@@ -1,13 +1,14 @@
 //! Questions about the proof of a theorem: the program's reply, and what the call answers that goes
 //! with the command.
 
-use mm_check::{is_same_proof, normal_form, packed_form, small_form};
 use crate::tests::{contents_of, expect_reply, files_of, joined};
 use crate::{Asked, form_lines, forms, sameness, saving, saving_all};
-use mm_check::{
-    AskFault, AskRule, Checked, Command, Form, Question, Rule, SaveFault, check, saved, saved_all,
-};
+use mm_check::{Command, Question};
+use mm_render::{SaveFault, is_same_proof, normal_form, packed_form, small_form};
+use mm_rules::{AskFault, AskRule, Rule};
+use mm_save::{saved, saved_all};
 use mm_text::{File, Seed};
+use mm_verdict::{Checked, Form, check};
 use std::alloc::Global;
 use std::process::Abort;
 use std::str::from_utf8;

@@ -5,8 +5,9 @@ use crate::Case;
 use crate::Part::Text;
 use crate::tests::{compare, compare_commands};
 use mm_check::Command::{self, About, Whole};
-use mm_check::{Form, Question, WholeQuestion};
+use mm_check::{Question, WholeQuestion};
 use mm_step::Profile;
+use mm_verdict::Form;
 use std::test::Fail;
 
 /// The examples of `docs/LANGUAGE.md`.

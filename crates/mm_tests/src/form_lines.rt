@@ -3,7 +3,8 @@
 use crate::Asked;
 use crate::Part::{Text, Times};
 use mm_check::Command::About;
-use mm_check::{Form, Question};
+use mm_check::Question;
+use mm_verdict::Form;
 
 /// The lines of normal proofs.
 pub(crate) const LINES_OF_LABELS: [Asked; 5] = [

@@ -8,7 +8,8 @@ use crate::doublings::{
     TWENTY_FOUR_LINES,
 };
 use mm_check::Command::About;
-use mm_check::{Form, Question};
+use mm_check::Question;
+use mm_verdict::Form;
 
 /// Small proofs: in them `weq` and `mp`, which are used twice, come before the labels that are used
 /// once.

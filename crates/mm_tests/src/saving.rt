@@ -5,7 +5,8 @@ use crate::Part::Text;
 use crate::databases::{CAT, DEMO, DEMO_COMPRESSED, DEMO_SMALL, DIST, FIRST, FIRST_HEAD, HEAD};
 use crate::doublings::{TWENTY_FOUR, TWENTY_FOUR_LINES};
 use mm_check::Command::About;
-use mm_check::{Form, Question};
+use mm_check::Question;
+use mm_verdict::Form;
 
 /// Files with a proof written anew.
 pub(crate) const SAVED: [Asked; 12] = [

@@ -7,7 +7,7 @@ use crate::databases::{
 };
 use crate::doublings::{TWENTY_FOUR, TWENTY_FOUR_LINES};
 use mm_check::Command::File;
-use mm_check::Form::{Normal, Packed, Small};
+use mm_verdict::Form::{Normal, Packed, Small};
 
 /// Files with each complete proof written anew.
 pub(crate) const SAVED: [Asked; 12] = [

@@ -21,13 +21,13 @@ use Rattle.mm_tool.specs.ReadFiles.{IsReadAs}
 use Rattle.mm_tool.specs.declared.files.Comments.{Comments}
 use Rattle.mm_text.specs.Files.{PlainFile}
 use Rattle.mm_check.specs.declared.command.Command.{Command}
-use Rattle.mm_check.specs.declared.status.Status.{Status}
+use Rattle.mm_rules.specs.declared.status.Status.{Status}
 use Rattle.mm_tool.specs.Folder.{AreTooLong, KnownFile, MayHold}
 use Rattle.mm_tool.specs.Answer.{Outcome, quiet, outcome_of}
 use Rattle.mm_tool.specs.declared.stop.Stop.{Stop}
 use Rattle.mm_tool.specs.declared.stop.Stop.TheVariants.{CannotWrite, Memory, Usage, CannotRead}
 use Rattle.std.specs.Global.{Vec}
-use Rattle.mm_check.specs.Status.{number_of}
+use Rattle.mm_rules.specs.Status.{number_of}
 use Rattle.mm_tool.specs.Words.{Asks, AsksExplain, AsksHelp, AsksRun, AsksText, IsWordFault}
 use Rattle.mm_tool.specs.Explained.{IsExplanation, IsExplanationFault}
 use Rattle.mm_tool.specs.declared.words.Request.{Request}

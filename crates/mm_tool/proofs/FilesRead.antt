@@ -17,7 +17,8 @@ use Rattle.mm_tool.specs.declared.files.ReadFile.{ReadFile}
 use Rattle.std.proofs.lemmas.List.Sums.{sum_by-append, sum_by_push}
 use Rattle.mm_text.specs.Alike.{AreAlike}
 use Rattle.mm_check.specs.Alike.{AlikeFilesHaveOneReply}
-use Rattle.mm_check.specs.Reply.{IsReplyTo, name_of}
+use Rattle.mm_check.specs.Reply.{IsReplyTo}
+use Rattle.mm_rules.specs.Places.{name_of}
 use Rattle.mm_check.specs.declared.command.Command.{Command}
 use Rattle.mm_check.specs.declared.command.Command.TheVariants.{Whole}
 use Rattle.mm_check.specs.declared.question.WholeQuestion.TheVariants.{Check}
@@ -30,9 +31,9 @@ use Rattle.mm_text.specs.declared.fault.LoadRule.{LoadRule}
 use Rattle.mm_text.specs.declared.file.File.{File}
 use Rattle.mm_text.specs.Included.{AlikeFilesLeaveOutTheSame, is_left_out, left_out}
 use Rattle.mm_text.proofs.Lists.{all_at, all_weaker}
-use Rattle.mm_check.proofs.Verdicts.AlikeVerdicts.{alike_back, breaks_alike, name_alike}
+use Rattle.mm_check.proofs.AlikeVerdicts.{alike_back, breaks_alike, name_alike}
 use Rattle.mm_tool.specs.Ending.{label_of}
-use Rattle.mm_check.specs.Near.{IsLabelIn}
+use Rattle.mm_explain.specs.Near.{IsLabelIn}
 use Rattle.mm_tool.specs.Notes.{AreLeftOut, AreNotesBeside, AreNotesOn, IsNearLine, near_line}
 use Rattle.mm_tool.specs.Notes.{unknown_text}
 

@@ -1,6 +1,6 @@
 -- What goes with the text of an answer.
 use Rattle.std.specs.Prelude.{ℕ, List, [], unwrap_or, option_map}
-use Rattle.mm_check.specs.Status.{number_of}
+use Rattle.mm_rules.specs.Status.{number_of}
 use Rattle.mm_tool.specs.declared.answer.Answer.{Answer}
 
 -- the status with which the program ends, and what standard error is then told

@@ -11,15 +11,15 @@ use Rattle.mm_text.specs.Files.{PlainFile, total_bytes}
 use Rattle.mm_text.specs.Device.{faults_of, inner_of, AppendsBeginning}
 use Rattle.mm_text.specs.declared.counted.Counted.{Counted}
 use Rattle.mm_check.specs.Reply.{IsReplyTo}
-use Rattle.mm_check.specs.Status.{number_of}
+use Rattle.mm_rules.specs.Status.{number_of}
 use Rattle.mm_check.specs.declared.command.Command.{Command}
 use Rattle.mm_check.specs.declared.command.Command.TheVariants.{Whole, About, File, Lone, Shorter}
 use Rattle.mm_check.specs.declared.question.Question.TheVariants.{Same}
 use Rattle.mm_check.specs.declared.question.LoneQuestion.TheVariants as lone
 use Rattle.mm_tool.specs.declared.words.TextQuestion.{TextQuestion}
 use Rattle.mm_tool.specs.declared.words.TextQuestion.TheVariants as of_text
-use Rattle.mm_check.specs.declared.status.Status.{Status}
-use Rattle.mm_check.specs.declared.status.Status.TheVariants as status
+use Rattle.mm_rules.specs.declared.status.Status.{Status}
+use Rattle.mm_rules.specs.declared.status.Status.TheVariants as status
 use Rattle.clap.specs.Words.{Text}
 use Rattle.mm_tool.specs.Folder.{AreHeld, AreTooLong, IsHeld, IsUnreadable, KnownFile, MayHold}
 use Rattle.mm_tool.specs.Answer.{Outcome, quiet}

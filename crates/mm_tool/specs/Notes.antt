@@ -6,8 +6,8 @@ use Rattle.clap.specs.Words.{Text}
 use Rattle.mm_text.specs.declared.fault.LoadRule.{LoadRule}
 use Rattle.mm_text.specs.Files.{BreaksLoad, PlainFile}
 use Rattle.mm_text.specs.Included.{left_out}
-use Rattle.mm_check.specs.Near.{IsLabelIn}
-use Rattle.mm_check.specs.Reply.{name_of}
+use Rattle.mm_explain.specs.Near.{IsLabelIn}
+use Rattle.mm_rules.specs.Places.{name_of}
 
 -- the line on a file that wasn't included
 abbrev pub note_of : (name : Text) → List ℕ

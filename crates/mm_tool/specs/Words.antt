@@ -24,8 +24,8 @@ use Rattle.mm_check.specs.declared.question.WholeQuestion.{WholeQuestion}
 use Rattle.mm_check.specs.declared.question.WholeQuestion.TheVariants.{Check, Faults, Why, Axioms, Shorter}
 use Rattle.mm_check.specs.declared.question.LoneQuestion.{LoneQuestion}
 use Rattle.mm_check.specs.declared.question.LoneQuestion.TheVariants as lone
-use Rattle.mm_check.specs.declared.form.Form.{Form}
-use Rattle.mm_check.specs.declared.form.Form.TheVariants.{Normal, Packed, Small}
+use Rattle.mm_verdict.specs.declared.form.Form.{Form}
+use Rattle.mm_verdict.specs.declared.form.Form.TheVariants.{Normal, Packed, Small}
 use Rattle.mm_step.specs.declared.profile.Profile.{Profile}
 use Rattle.mm_step.specs.declared.profile.Profile.TheVariants.{Strict, Lenient}
 use Rattle.mm_tool.specs.declared.words.Request.{Request}

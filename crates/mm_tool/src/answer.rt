@@ -3,7 +3,7 @@
 ghost use Rattle.std.specs.Prelude.{◌≡◌};
 ghost use Rattle.mm_tool.specs.Answer.{outcome_of};
 
-use mm_check::Status;
+use mm_rules::Status;
 
 /// What goes with the text of an answer, once that is written.
 #[derive(Drop)]

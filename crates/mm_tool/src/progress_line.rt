@@ -4,14 +4,15 @@ ghost use Rattle.std.specs.Prelude.{◌≡◌, ◌<◌, map, IfOk, OnOk};
 ghost use Rattle.mm_text.specs.Device.{faults_of};
 ghost use Rattle.mm_text.specs.Files.{plain_file};
 ghost use Rattle.mm_check.specs.Reply.{AsksHanded, IsReplyTo};
-ghost use Rattle.mm_check.specs.Status.{number_of};
+ghost use Rattle.mm_rules.specs.Status.{number_of};
 ghost use Rattle.mm_tool.specs.Ending.{IsUntouched, StaysUnshown};
 
 use crate::folder::Resources;
 use crate::say::say_text;
 use itoa::Buffer;
-use mm_check::{Command, Reply, SoFar, Unwatched, Watch, reply_to};
+use mm_check::{Command, reply_to};
 use mm_text::{Counted, File, WriteFault};
+use mm_verdict::{Reply, SoFar, Unwatched, Watch};
 use std::alloc::AllocError;
 use std::io::Write;
 

@@ -4,7 +4,7 @@ ghost use Rattle.std.specs.Prelude.{◌≡◌, ◌↔◌, ◌+◌, ◌<◌, ◌�
 ghost use Rattle.std.specs.Prelude.{IfOk, IfErr, IfSome, OnOk, OnErr};
 ghost use Rattle.mm_text.specs.Device.{faults_of, inner_of};
 ghost use Rattle.mm_text.specs.Files.{plain_file};
-ghost use Rattle.mm_check.specs.Status.{number_of};
+ghost use Rattle.mm_rules.specs.Status.{number_of};
 ghost use Rattle.mm_tool.specs.Ending.{BreaksOff, Ends, EndsWithoutWords, AnswersWords};
 ghost use Rattle.mm_tool.specs.Ending.{IsReplyOver};
 ghost use Rattle.mm_tool.specs.Answer.{outcome_of, quiet};
@@ -30,10 +30,10 @@ use crate::stop::Stop;
 use crate::texts::Texts;
 use crate::unread::{asked_label, labelled, tell_unread};
 use crate::words::{AskedText, Request, TextQuestion, request_of};
-use mm_check::{
-    Command, LoneQuestion, Question, Reply, Status, WholeQuestion, alike_files_have_one_reply,
-};
+use mm_check::{Command, LoneQuestion, Question, WholeQuestion, alike_files_have_one_reply};
+use mm_rules::Status;
 use mm_text::{BYTE_LIMIT, Counted, File, alike_files_leave_out_the_same};
+use mm_verdict::Reply;
 use std::alloc::{AllocError, Global};
 use std::io::Write;
 

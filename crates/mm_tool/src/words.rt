@@ -25,8 +25,9 @@ use crate::command_line::{
 use crate::stop::Stop;
 use clap::error::ErrorKind;
 use clap::{ArgMatches, Command, Error};
-use mm_check::{Form, LoneQuestion, Question, WholeQuestion};
+use mm_check::{LoneQuestion, Question, WholeQuestion};
 use mm_step::Profile;
+use mm_verdict::Form;
 use std::alloc::{AllocError, Global};
 
 /// What is said where two flags of `show` are given.

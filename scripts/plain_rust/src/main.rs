@@ -6,6 +6,14 @@
 
 #[macro_use]
 mod library;
+mod mm_rules;
+mod mm_verdict;
+mod mm_render;
+mod mm_facts;
+mod mm_explain;
+mod mm_axioms;
+mod mm_save;
+mod mm_minimize;
 mod mm_check;
 mod mm_code;
 mod mm_frame;

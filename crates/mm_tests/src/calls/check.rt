@@ -1,16 +1,15 @@
 //! One happy path of each public call, and writers that fail in the middle of a reply.
 
-use mm_check::{proof_listing};
-use mm_check::{axioms};
 use crate::calls::failing::failing_writer;
 use crate::tests::{CHECK, reply_to};
-use mm_check::{
-    AllFaults, AskFault, AskRule, CheckFault, Checked, Command, Question, Refusal, Report, Rule,
-    RunFault, Status, all_faults, check, run,
-};
+use mm_axioms::{Report, axioms};
+use mm_check::{Command, Question, RunFault, run};
 use mm_frame::MeaningRule;
+use mm_render::proof_listing;
+use mm_rules::{AskFault, AskRule, CheckFault, Refusal, Rule, Status};
 use mm_step::{Profile, ProofRule};
 use mm_text::{File, LoadRule, Seed};
+use mm_verdict::{AllFaults, Checked, all_faults, check};
 use std::alloc::Global;
 use std::test::Fail;
 

@@ -5,22 +5,25 @@
 //! it leaves, and go on. With ample memory they are runs of happy paths. `scripts/failing` runs
 //! each of them with each of its requests for memory refused, one alone, in turn.
 
-use mm_check::{is_same_proof, normal_form, packed_form, proof_listing, small_form, statement_text, uses_listing};
-use mm_check::{all_users, axioms, direct_users};
 use crate::calls::code::{CODES, LETTERS};
 use crate::calls::load::{HOLLOW, failing_reader};
 use crate::databases::{DEMO, DEMO_COMPRESSED, DEMO_SMALL};
 use crate::tests::{CHECK, asks_handed};
-use mm_check::{
-    AskFault, CheckFault, Checked, Command, Form, Question, RunFault, SaveFault, Status,
-    WholeQuestion, check, run, saved, saved_all,
-};
+use mm_axioms::{all_users, axioms, direct_users};
+use mm_check::{Command, Question, RunFault, WholeQuestion, run};
 use mm_code::write_codes;
+use mm_render::{
+    SaveFault, is_same_proof, normal_form, packed_form, proof_listing, small_form, statement_text,
+    uses_listing,
+};
+use mm_rules::{AskFault, CheckFault, Status};
+use mm_save::{saved, saved_all};
 use mm_step::Profile;
 use mm_text::{
     Counted, File, HollowBytes, LoadFault, Seed, Statement, Statements, TextFault, read_all,
     read_hollow,
 };
+use mm_verdict::{Checked, Form, check};
 use std::alloc::Global;
 use std::test::Fail;
 

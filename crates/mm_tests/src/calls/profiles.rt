@@ -1,13 +1,13 @@
 //! `check` under both profiles, and questions of what either has accepted.
 
-use mm_check::{is_same_proof};
 use crate::databases::{DEMO, DEMO_COMPRESSED, HEAD};
-use mm_check::{
-    AskFault, AskRule, CheckFault, Checked, Form, Rule, between_profiles, check, check_with, saved,
-    saved_proof_is_strict,
-};
+use mm_laws::{between_profiles, saved_proof_is_strict};
+use mm_render::is_same_proof;
+use mm_rules::{AskFault, AskRule, CheckFault, Rule};
+use mm_save::saved;
 use mm_step::{Profile, ProofRule};
 use mm_text::{File, Seed};
+use mm_verdict::{Checked, Form, check, check_with};
 use std::alloc::Global;
 use std::process::Abort;
 use std::test::Fail;

@@ -4,13 +4,16 @@ ghost use Rattle.std.specs.Prelude.{◌≡◌, ◌≤◌, length};
 
 use crate::databases::FIRST;
 use crate::tests::reply_to;
-use mm_check::{
-    Command, Form, Question, Status, all_saved_proofs_are_strict, one_all_saved, one_saved,
-    packed_texts_tell, saved, saved_all, saving_again_changes_nothing,
-    saving_all_again_changes_nothing, saving_all_changes_no_answer, saving_changes_no_answer,
-    small_files_do_not_grow,
+use mm_check::{Command, Question};
+use mm_laws::{
+    all_saved_proofs_are_strict, one_all_saved, one_saved, packed_texts_tell,
+    saving_again_changes_nothing, saving_all_again_changes_nothing, saving_all_changes_no_answer,
+    saving_changes_no_answer, small_files_do_not_grow,
 };
+use mm_rules::Status;
+use mm_save::{saved, saved_all};
 use mm_text::{File, Seed};
+use mm_verdict::Form;
 use std::alloc::{AllocError, Global};
 use std::test::Fail;
 

@@ -4,9 +4,9 @@ use Rattle.std.proofs.lemmas.Result.{IfOk-weaker}
 use Rattle.mm_text.specs.Files.{PlainFile, plain_file}
 use Rattle.mm_text.specs.Statement.{plain_statement}
 use Rattle.mm_frame.specs.Sentence.{sentence_of}
-use Rattle.mm_check.specs.Reply.{IsTryReply}
-use Rattle.mm_check.specs.Status.{number_of}
-use Rattle.mm_check.proofs.Questions.LoneTheorems.{of_reached, reached_number}
+use Rattle.mm_explain.specs.Reply.{IsTryReply}
+use Rattle.mm_rules.specs.Status.{number_of}
+use Rattle.mm_explain.proofs.LoneProofs.LoneTheorems.{of_reached, reached_number}
 use Rattle.mm_check.proofs.alone.answer_about.Goals as goal
 
 pub try_reply-requires : goal.try_reply-requires

@@ -2,7 +2,7 @@
 use Rattle.std.proofs.Common.{ℕ, List, subst}
 use Rattle.std.specs.Io.KnownBytes.{Appends}
 use Rattle.mm_text.specs.Device.{inner_of, AppendsBeginning}
-use Rattle.mm_check.specs.Status.{number_of}
+use Rattle.mm_rules.specs.Status.{number_of}
 use Rattle.mm_check.proofs.command.run.Goals as goal
 
 pub returns-in-Ok-clause-reply : goal.returns-in-Ok-clause-reply

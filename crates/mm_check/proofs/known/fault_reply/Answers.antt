@@ -5,16 +5,17 @@ use Rattle.mm_text.specs.Files.{plain_file, PlainFile}
 use Rattle.mm_text.specs.Statement.{plain_statement, PlainStatement}
 use Rattle.mm_frame.specs.Sentence.{Sentence, sentence_of}
 use Rattle.mm_step.specs.declared.profile.Profile.TheVariants.{Lenient}
-use Rattle.mm_check.specs.declared.rule.Rule.TheVariants as rules
+use Rattle.mm_rules.specs.declared.rule.Rule.TheVariants as rules
 use Rattle.mm_check.specs.Alone.{AreStepsBefore}
-use Rattle.mm_check.specs.Answer.{plain_refusal}
-use Rattle.mm_check.specs.Explained.{judged_tokens}
-use Rattle.mm_check.specs.Explained.{AreDetails, Detail, details_text, IsTokensFault}
-use Rattle.mm_check.specs.Reply.{text_of}
-use Rattle.mm_check.specs.Verdict.{PlainRefusal, Refused, refusal_of, sentences}
-use Rattle.mm_check.specs.Why.{IsFaultPlace, head_text}
-use Rattle.mm_check.proofs.Questions.LoneTheorems.{of_reached, reached_before, reached_few}
-use Rattle.mm_check.proofs.Questions.LoneTheorems.{reached_number}
+use Rattle.mm_rules.specs.Answer.{plain_refusal}
+use Rattle.mm_facts.specs.Explained.{judged_tokens}
+use Rattle.mm_facts.specs.Explained.{AreDetails, Detail, details_text, IsTokensFault}
+use Rattle.mm_verdict.specs.Reply.{text_of}
+use Rattle.mm_rules.specs.Verdict.{PlainRefusal, Refused, refusal_of, sentences}
+use Rattle.mm_facts.specs.Why.{IsFaultPlace}
+use Rattle.mm_explain.specs.Why.{head_text}
+use Rattle.mm_explain.proofs.LoneProofs.LoneTheorems.{of_reached, reached_before, reached_few}
+use Rattle.mm_explain.proofs.LoneProofs.LoneTheorems.{reached_number}
 use Rattle.mm_check.proofs.known.fault_reply.Goals as goal
 
 pub refusal-refusal-requires : goal.refusal-refusal-requires

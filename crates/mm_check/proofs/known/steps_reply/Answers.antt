@@ -8,14 +8,14 @@ use Rattle.mm_text.specs.Files.{plain_file}
 use Rattle.mm_frame.specs.Sentence.{Sentence}
 use Rattle.mm_listing.specs.declared.lines.Line.{Line}
 use Rattle.mm_listing.specs.Listing.{TellsStep}
-use Rattle.mm_check.specs.Mirror.Reached.{AreTried}
+use Rattle.mm_explain.specs.Mirror.Reached.{AreTried}
 use Rattle.mm_proof.specs.declared.prover.Proved.TheVariants.{Complete}
 use Rattle.mm_check.specs.Reply.{IsKnownPrefix}
-use Rattle.mm_check.specs.Shown.{IsListingText}
-use Rattle.mm_check.specs.Status.{number_of}
-use Rattle.mm_check.proofs.Questions.KnownSteps.{IsTextOfLines, known_fault, known_listed}
-use Rattle.mm_check.proofs.Questions.KnownSteps.{known_shown, known_tried}
-use Rattle.mm_check.proofs.Questions.LoneTheorems.{of_reached}
+use Rattle.mm_render.specs.Shown.{IsListingText}
+use Rattle.mm_rules.specs.Status.{number_of}
+use Rattle.mm_check.proofs.KnownSteps.{IsTextOfLines, known_fault, known_listed}
+use Rattle.mm_check.proofs.KnownSteps.{known_shown, known_tried}
+use Rattle.mm_explain.proofs.LoneProofs.LoneTheorems.{of_reached}
 use Rattle.mm_check.proofs.known.steps_reply.Goals as goal
 
 pub text_of-requires : goal.text_of-requires

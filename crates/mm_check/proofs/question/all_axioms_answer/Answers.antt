@@ -1,9 +1,10 @@
 -- The lines of all theorems, or the refusal.
 use Rattle.std.proofs.Common.{◌≡◌, List, map}
 use Rattle.mm_text.specs.Files.{PlainFile, plain_file}
-use Rattle.mm_check.specs.Conclusion.{Conclusion}
-use Rattle.mm_check.specs.Answer.{KeepsFiles, KeepsLabels}
-use Rattle.mm_check.proofs.ReplyTexts.{made_both, at_ok, no_axioms_told, all_axioms_told}
+use Rattle.mm_rules.specs.Conclusion.{Conclusion}
+use Rattle.mm_rules.specs.Answer.{KeepsFiles, KeepsLabels}
+use Rattle.mm_verdict.proofs.ReplyTexts.{made_both, at_ok}
+use Rattle.mm_check.proofs.AnswersTold.{no_axioms_told, all_axioms_told}
 use Rattle.mm_check.proofs.question.all_axioms_answer.Goals as goal
 
 pub all_axioms_text-requires : goal.all_axioms_text-requires

@@ -2,10 +2,11 @@
 use Rattle.std.proofs.Common.{List, Err, map, refl, inr}
 use Rattle.std.proofs.lemmas.Result.{IfOk-weaker}
 use Rattle.mm_text.specs.Files.{PlainFile, plain_file}
-use Rattle.mm_check.specs.declared.ask.AskFault.{AskFault}
-use Rattle.mm_check.specs.declared.fault.CheckFault.{CheckFault}
+use Rattle.mm_rules.specs.declared.ask.AskFault.{AskFault}
+use Rattle.mm_rules.specs.declared.fault.CheckFault.{CheckFault}
 use Rattle.mm_check.specs.Reply.{IsAllSavedReply}
-use Rattle.mm_check.proofs.ReplyTexts.{made_both, asked_all, question_refused}
+use Rattle.mm_verdict.proofs.ReplyTexts.{made_both}
+use Rattle.mm_check.proofs.AnswersTold.{asked_all, question_refused}
 use Rattle.mm_check.proofs.question.all_saved_reply.Goals as goal
 
 pub returns-in-Err-Ask : goal.returns-in-Err-Ask

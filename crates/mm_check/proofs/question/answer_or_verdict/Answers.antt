@@ -3,10 +3,11 @@ use Rattle.std.proofs.Common.{◌≡◌, List, map}
 use Rattle.std.proofs.lemmas.Result.{IfOk-weaker}
 use Rattle.mm_text.specs.Files.{PlainFile, plain_file}
 use Rattle.mm_step.specs.declared.profile.Profile.TheVariants.{Lenient}
-use Rattle.mm_check.specs.Conclusion.{Conclusion}
-use Rattle.mm_check.specs.Answer.{KeepsFiles, KeepsLabels}
+use Rattle.mm_rules.specs.Conclusion.{Conclusion}
+use Rattle.mm_rules.specs.Answer.{KeepsFiles, KeepsLabels}
 use Rattle.mm_check.specs.Reply.{IsAnswerTo}
-use Rattle.mm_check.proofs.ReplyTexts.{made_both, at_ok, question_read, question_refused}
+use Rattle.mm_verdict.proofs.ReplyTexts.{made_both, at_ok}
+use Rattle.mm_check.proofs.AnswersTold.{question_read, question_refused}
 use Rattle.mm_check.proofs.question.answer_or_verdict.Goals as goal
 
 pub answer_to-requires-clause-profile : goal.answer_to-requires-clause-profile

@@ -1,6 +1,7 @@
 -- What is told is the verdict.
-use Rattle.mm_check.specs.Answer.{verdict_of_answer}
-use Rattle.mm_check.proofs.ReplyTexts.{made_both, reply_at}
+use Rattle.mm_rules.specs.Answer.{verdict_of_answer}
+use Rattle.mm_verdict.proofs.ReplyTexts.{made_both}
+use Rattle.mm_check.proofs.AnswersTold.{reply_at}
 use Rattle.mm_check.proofs.question.check_reply.Goals as goal
 
 pub returns : goal.returns

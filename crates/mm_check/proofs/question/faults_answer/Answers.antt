@@ -1,8 +1,8 @@
 -- What is told is the verdict where that is no refusal, else all faults.
 use Rattle.std.proofs.Common.{inl}
 use Rattle.std.proofs.lemmas.Result.{IfOk-weaker}
-use Rattle.mm_check.specs.Answer.{verdict_of_conclusion}
-use Rattle.mm_check.proofs.ReplyTexts.{made_both, no_refusal}
+use Rattle.mm_rules.specs.Answer.{verdict_of_conclusion}
+use Rattle.mm_verdict.proofs.ReplyTexts.{made_both, no_refusal}
 use Rattle.mm_check.proofs.question.faults_answer.Goals as goal
 
 pub returns-in-Ok : goal.returns-in-Ok

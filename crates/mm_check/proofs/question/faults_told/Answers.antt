@@ -1,8 +1,9 @@
 -- What is told is the rule that the files break as a whole, or all refusals.
 use Rattle.std.proofs.Common.{map, refl, inl}
 use Rattle.mm_text.specs.Files.{plain_file}
-use Rattle.mm_check.specs.Verdict.{Load}
-use Rattle.mm_check.proofs.ReplyTexts.{made_both, told_all}
+use Rattle.mm_rules.specs.Verdict.{Load}
+use Rattle.mm_verdict.proofs.ReplyTexts.{made_both}
+use Rattle.mm_check.proofs.AnswersTold.{told_all}
 use Rattle.mm_check.proofs.question.faults_told.Goals as goal
 
 pub returns-in-Load : goal.returns-in-Load

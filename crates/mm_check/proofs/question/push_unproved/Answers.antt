@@ -2,10 +2,10 @@
 use Rattle.std.proofs.Common.{◌<◌, ◌≤◌, ◌++◌, ℕ, List, [], ◌∷◌, map, take, length, get_or, codes, ap, ◌∙◌, append_assoc}
 use Rattle.std.proofs.lemmas.List.{take_all}
 use Rattle.mm_frame.specs.declared.number.LabelId.{LabelId}
-use Rattle.mm_check.specs.Reply.{lines_of}
-use Rattle.mm_check.specs.Answer.{labels_at}
-use Rattle.mm_check.proofs.Numbers.{all_at}
-use Rattle.mm_check.proofs.ReplyTexts.{one_more_question}
+use Rattle.mm_verdict.specs.Reply.{lines_of}
+use Rattle.mm_rules.specs.Answer.{labels_at}
+use Rattle.mm_rules.proofs.Numbers.{all_at}
+use Rattle.mm_verdict.proofs.ReplyTexts.{one_more_question}
 use Rattle.mm_check.proofs.question.push_unproved.Goals as goal
 
 pub push_label-requires : goal.push_label-requires

@@ -1,7 +1,7 @@
 -- The lines so far are those of the numbers so far.
 use Rattle.std.proofs.Common.{◌≡◌, ◌++◌, map, take, codes}
-use Rattle.mm_check.specs.Reply.{lines_of}
-use Rattle.mm_check.specs.Answer.{labels_at}
+use Rattle.mm_verdict.specs.Reply.{lines_of}
+use Rattle.mm_rules.specs.Answer.{labels_at}
 use Rattle.mm_check.proofs.question.push_unproved.Given as goal
 
 abbrev pub invariant-loop-number : goal.invariant-loop-number

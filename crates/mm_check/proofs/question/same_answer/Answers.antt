@@ -2,7 +2,7 @@
 use Rattle.std.proofs.Common.{inl, inr, subst}
 use Rattle.std.proofs.lemmas.Result.{IfOk-weaker}
 use Rattle.mm_step.specs.declared.profile.Profile.{Profile}
-use Rattle.mm_check.specs.Compared.{IsCompared}
+use Rattle.mm_render.specs.Compared.{IsCompared}
 use Rattle.mm_check.proofs.question.same_answer.Goals as goal
 
 pub returns-in_ok-text-in-Ok : goal.returns-in_ok-text-in-Ok

@@ -2,8 +2,8 @@
 use Rattle.std.proofs.Common.{ℕ, List, ◌++◌, map, inl, inr, refl, ap, ◌∙◌}
 use Rattle.std.proofs.lemmas.Result.{IfOk-weaker}
 use Rattle.mm_frame.specs.declared.number.LabelId.{LabelId}
-use Rattle.mm_check.specs.Reply.{lines_of}
-use Rattle.mm_check.specs.Answer.{labels_at}
+use Rattle.mm_verdict.specs.Reply.{lines_of}
+use Rattle.mm_rules.specs.Answer.{labels_at}
 use Rattle.mm_check.proofs.question.users_answer.Goals as goal
 
 pub returns-in_ok-push_labels-in-Ok : goal.returns-in_ok-push_labels-in-Ok

@@ -1,8 +1,8 @@
 -- What is told is the verdict where that is no refusal, else all faults.
 use Rattle.std.proofs.Common.{refl, inl, inr}
-use Rattle.mm_check.specs.Answer.{verdict_of_conclusion}
-use Rattle.mm_check.specs.Verdict.{Load}
-use Rattle.mm_check.proofs.ReplyTexts.{made_both, no_refusal}
+use Rattle.mm_rules.specs.Answer.{verdict_of_conclusion}
+use Rattle.mm_rules.specs.Verdict.{Load}
+use Rattle.mm_verdict.proofs.ReplyTexts.{made_both, no_refusal}
 use Rattle.mm_check.proofs.question.why_reply.Goals as goal
 
 pub returns-in-Ok : goal.returns-in-Ok

@@ -1,9 +1,10 @@
 -- The lines of shorter proofs, or the refusal.
 use Rattle.std.proofs.Common.{◌≡◌, List, map}
 use Rattle.mm_text.specs.Files.{PlainFile, plain_file}
-use Rattle.mm_check.specs.Conclusion.{Conclusion}
-use Rattle.mm_check.specs.Answer.{KeepsFiles, KeepsLabels}
-use Rattle.mm_check.proofs.ReplyTexts.{made_both, at_ok, no_shorter_told, all_shorter_told}
+use Rattle.mm_rules.specs.Conclusion.{Conclusion}
+use Rattle.mm_rules.specs.Answer.{KeepsFiles, KeepsLabels}
+use Rattle.mm_verdict.proofs.ReplyTexts.{made_both, at_ok}
+use Rattle.mm_check.proofs.AnswersTold.{no_shorter_told, all_shorter_told}
 use Rattle.mm_check.proofs.shorter_reply.shorter_answer.Goals as goal
 
 pub minimized_list-requires : goal.minimized_list-requires

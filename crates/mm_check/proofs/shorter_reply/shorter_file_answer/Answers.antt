@@ -5,13 +5,14 @@ use Rattle.std.proofs.lemmas.Result.{IfOk-weaker}
 use Rattle.mm_text.specs.Files.{PlainFile, plain_file}
 use Rattle.mm_step.specs.declared.profile.Profile.{Profile}
 use Rattle.mm_step.specs.declared.profile.Profile.TheVariants.{Lenient}
-use Rattle.mm_check.specs.AllShorter.{IsAllShortened, IsAllShorterFault}
-use Rattle.mm_check.specs.Conclusion.{Conclusion}
-use Rattle.mm_check.specs.Answer.{KeepsFiles}
+use Rattle.mm_minimize.specs.AllShorter.{IsAllShortened, IsAllShorterFault}
+use Rattle.mm_rules.specs.Conclusion.{Conclusion}
+use Rattle.mm_rules.specs.Answer.{KeepsFiles}
 use Rattle.mm_check.specs.Reply.{IsAllShortenedReply}
-use Rattle.mm_check.specs.Saved.{FitsSaved}
-use Rattle.mm_check.proofs.ReplyTexts.{asked_shorter, made_both, at_ok, question_read}
-use Rattle.mm_check.proofs.ReplyTexts.{question_refused}
+use Rattle.mm_render.specs.Saved.{FitsSaved}
+use Rattle.mm_check.proofs.AnswersTold.{asked_shorter, question_read}
+use Rattle.mm_verdict.proofs.ReplyTexts.{made_both, at_ok}
+use Rattle.mm_check.proofs.AnswersTold.{question_refused}
 use Rattle.mm_check.proofs.shorter_reply.shorter_file_answer.Goals as goal
 
 pub minimized_file-requires : goal.minimized_file-requires

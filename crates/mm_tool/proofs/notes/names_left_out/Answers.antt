@@ -2,7 +2,7 @@
 use Rattle.std.proofs.Common.{◌∙◌, ap, map, get_or, rules}
 use Rattle.std.proofs.lemmas.List.{map-append, take_all}
 use Rattle.mm_text.specs.Files.{plain_file}
-use Rattle.mm_check.specs.Reply.{name_of}
+use Rattle.mm_rules.specs.Places.{name_of}
 use Rattle.mm_tool.proofs.FilesRead.{name_at, name_more, names_told, number_within}
 use Rattle.mm_tool.proofs.notes.names_left_out.Goals as goal
 

@@ -1,6 +1,6 @@
 use Rattle.std.proofs.Common.{◌≡◌, map, take}
 use Rattle.mm_text.specs.Files.{plain_file}
-use Rattle.mm_check.specs.Reply.{name_of}
+use Rattle.mm_rules.specs.Places.{name_of}
 use Rattle.mm_tool.proofs.notes.names_left_out.Given as goal
 
 -- The names so far are those by the numbers so far.

@@ -6,7 +6,7 @@ use Rattle.mm_tool.specs.Answer.{quiet}
 use Rattle.mm_tool.specs.Folder.{IsFileFault, plain_read}
 use Rattle.mm_tool.specs.declared.files.FileFault.{FileFault}
 use Rattle.mm_check.specs.Reply.{IsReplyTo}
-use Rattle.mm_check.specs.Status.{number_of}
+use Rattle.mm_rules.specs.Status.{number_of}
 use Rattle.mm_tool.proofs.FilesRead.{notes_over, reply_over}
 use Rattle.mm_tool.proofs.AnsweredWords.{as_many, asks_handed, replies_written}
 use Rattle.mm_tool.proofs.AnsweredWords.{stops_too_long, stops_written}

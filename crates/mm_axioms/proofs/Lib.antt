@@ -1,0 +1,3 @@
+pub mod WordBits
+pub mod WordSets
+pub mod Resting

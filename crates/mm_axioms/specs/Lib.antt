@@ -1,0 +1,4 @@
+pub mod Reply
+pub mod Users
+pub mod AllAxioms
+pub mod Mirror

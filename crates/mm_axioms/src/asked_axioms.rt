@@ -1,0 +1,171 @@
+//! What is asked of a database about what its theorems rest on.
+
+ghost use Rattle.mm_rules.specs.Answer.{IsKeptOf};
+ghost use Rattle.mm_axioms.specs.Mirror.Tables.{AreTables, IsOfKind, IsReportAt};
+ghost use Rattle.mm_rules.specs.Rests.{AreInOrder, IsNumberWhere};
+ghost use Rattle.mm_rules.specs.Rests.{IsNamed, IsAskFault, IsReport};
+ghost use Rattle.mm_axioms.specs.Users.{IsAssertionFault, AreUsers};
+ghost use Rattle.mm_rules.specs.declared.ask.AskFault.TheVariants.{Memory};
+ghost use Rattle.mm_frame.specs.Form.{IsSound};
+ghost use Rattle.mm_frame.specs.Sentence.{IsAssertion};
+ghost use Rattle.mm_text.specs.Reading.{Reads};
+ghost use Rattle.mm_text.specs.Statement.{PlainStatement};
+ghost use Rattle.mm_text.specs.declared.statement.Kind.TheVariants.{Provable};
+ghost use Rattle.std.specs.List.{AllByRecursion};
+ghost use Rattle.std.specs.Prelude.{map};
+ghost use Rattle.std.specs.Prelude.{true, false, Some, None, IfOk, IfErr, IfSome, ℕ};
+ghost use Rattle.std.specs.Prelude.{◌≡◌, ◌<◌, List, map, length, slice_get};
+
+use crate::bits::index_of;
+use crate::report::{
+    Report, Tables, axioms_among, marked_among, reach, report_in, tables_of, theorems_of,
+};
+use crate::users::{all_users_among, users_among};
+use mm_frame::{Found, LabelId};
+use mm_rules::{AskFault, AskRule};
+use mm_verdict::Checked;
+use std::alloc::{AllocError, Global};
+
+/// What the `$p` with this label rests on.
+///
+/// It rests on the assertions in the tree that its proof spells and, with each `$p` among them
+/// whose proof is complete, on those that this one rests on. Axioms of syntax are axioms too.
+///
+/// # Errors
+///
+/// `A1` where no statement has the label, `A2` where it isn't that of a `$p`, `A3` where the
+/// proof is incomplete; `Memory` where a growth was refused.
+pub fn axioms(alloc: Global, checked: &Checked, label: &[u8]) -> Result<Report, AskFault>
+    // The lists are those of the statements of the files: the `$a`, and the incomplete `$p`,
+    // among what the theorem rests on.
+    ensures report { IfOk result (λ report. (statements : List PlainStatement)
+        → Reads checked.now.files statements None → IsReport statements label.now
+        (map (λ id. id.0) report.axioms.items) (map (λ id. id.0) report.unproved.items)) }
+    ensures fault { IfErr result (λ fault. (statements : List PlainStatement)
+        → Reads checked.now.files statements None → IsAskFault statements label.now fault) }
+    // Each number is that of a label.
+    ensures in_range { IfOk result (λ report.
+        AllByRecursion (λ n. n < length checked.now.labels) (map (λ id. id.0) report.axioms.items)
+        × AllByRecursion (λ n. n < length checked.now.labels)
+        (map (λ id. id.0) report.unproved.items)) }
+{
+    let kept = &checked.kept;
+    let theorem = checked.theorem(label)?;
+    let marks = reach(alloc, kept, theorem)?;
+    let axioms = axioms_among(alloc, &checked.book, &marks, theorem)?;
+    let unproved = marked_among(alloc, &checked.incomplete, &marks)?;
+    Ok(Report { axioms, unproved })
+}
+
+/// The number of the `$a` or `$p` that has this label.
+fn assertion(checked: &Checked, label: &[u8]) -> Result<LabelId, AskFault>
+    ensures found { IfOk result (λ id. (statements : List PlainStatement)
+        → IsKeptOf statements checked.now
+        → IsNamed statements label.now (λ s. IsAssertion s.kind) id.0) }
+    ensures fault { IfErr result (λ fault. (statements : List PlainStatement)
+        → IsKeptOf statements checked.now → IsAssertionFault statements label.now fault) }
+    ensures sound { IsSound checked.now.sentences }
+{
+    let broken = match checked.book.find(label) {
+        Found::Assertion(id) => return Ok(id),
+        Found::Hypothesis { .. } => AskRule::A2,
+        Found::None => AskRule::A1,
+    };
+    Err(AskFault::Rule(broken))
+}
+
+/// The `$p` with complete proofs that use the assertion with this label, in database order.
+///
+/// # Errors
+///
+/// `A1` where no statement has the label, `A2` where it is that of a hypothesis; `Memory` where
+/// a growth was refused.
+pub fn direct_users(
+    alloc: Global,
+    checked: &Checked,
+    label: &[u8],
+) -> Result<Vec<LabelId>, AskFault>
+    ensures users { IfOk result (λ users. (statements : List PlainStatement)
+        → Reads checked.now.files statements None
+        → AreUsers false statements label.now (map (λ id. id.0) users.items)) }
+    ensures fault { IfErr result (λ fault. (statements : List PlainStatement)
+        → Reads checked.now.files statements None → IsAssertionFault statements label.now fault) }
+    // Each number is that of a label.
+    ensures in_range { IfOk result (λ users.
+        AllByRecursion (λ n. n < length checked.now.labels) (map (λ id. id.0) users.items)) }
+{
+    let kept = &checked.kept;
+    let assertion = assertion(checked, label)?;
+    Ok(users_among(alloc, kept, assertion)?)
+}
+
+/// The `$p` with complete proofs that rest on the assertion with this label, in database order:
+/// their proofs use it, or a theorem that rests on it.
+///
+/// # Errors
+///
+/// As for `users`.
+pub fn all_users(alloc: Global, checked: &Checked, label: &[u8]) -> Result<Vec<LabelId>, AskFault>
+    ensures users { IfOk result (λ users. (statements : List PlainStatement)
+        → Reads checked.now.files statements None
+        → AreUsers true statements label.now (map (λ id. id.0) users.items)) }
+    ensures fault { IfErr result (λ fault. (statements : List PlainStatement)
+        → Reads checked.now.files statements None → IsAssertionFault statements label.now fault) }
+    // Each number is that of a label.
+    ensures in_range { IfOk result (λ users.
+        AllByRecursion (λ n. n < length checked.now.labels) (map (λ id. id.0) users.items)) }
+{
+    let kept = &checked.kept;
+    let assertion = assertion(checked, label)?;
+    Ok(all_users_among(alloc, kept, assertion)?)
+}
+
+/// The tables of what all theorems rest on.
+pub fn tables(alloc: Global, checked: &Checked) -> Result<Tables, AllocError>
+    ensures { IfOk result (λ tables. AreTables checked.now.sentences checked.now.incomplete
+        checked.now.uses tables) }
+{
+    tables_of(alloc, &checked.book, &checked.kept, &checked.incomplete)
+}
+
+/// The `$p`, in database order.
+pub(crate) fn theorems_in(alloc: Global, checked: &Checked) -> Result<Vec<LabelId>, AllocError>
+    ensures kinds { IfOk result (λ ids.
+        AreInOrder (IsOfKind checked.now.sentences Provable) (map (λ l. l.0) ids.items)) }
+    ensures told { IfOk result (λ ids. (statements : List PlainStatement)
+        → Reads checked.now.files statements None
+        → AreInOrder (IsNumberWhere statements (λ s. s.kind ≡ Provable))
+        (map (λ l. l.0) ids.items)) }
+    ensures in_range { IfOk result (λ ids.
+        AllByRecursion (λ n. n < length checked.now.labels) (map (λ l. l.0) ids.items)) }
+{
+    theorems_of(alloc, &checked.book)
+}
+
+/// What a theorem rests on, as the tables tell it; nothing where its proof is incomplete.
+pub(crate) fn report_at(
+    alloc: Global,
+    checked: &Checked,
+    tables: &Tables,
+    theorem: LabelId,
+) -> Result<Option<Report>, AllocError>
+    requires tables { AreTables checked.now.sentences checked.now.incomplete checked.now.uses
+        tables.now }
+    requires theorem { IsOfKind checked.now.sentences Provable theorem.0 }
+    ensures report { IfOk result (λ told. (statements : List PlainStatement)
+        → Reads checked.now.files statements None → (label : List ℕ)
+        → slice_get checked.now.labels theorem.0 ≡ Some label
+        → IsReportAt statements label theorem.0 told) }
+    ensures in_range { IfOk result (λ told. IfSome told (λ report.
+        AllByRecursion (λ n. n < length checked.now.labels) (map (λ id. id.0) report.axioms.items)
+        × AllByRecursion (λ n. n < length checked.now.labels)
+        (map (λ id. id.0) report.unproved.items))) }
+{
+    match index_of(&checked.incomplete, theorem) {
+        Some(_) => Ok(None),
+        None => {
+            let report = report_in(alloc, tables, &checked.incomplete, theorem)?;
+            Ok(Some(report))
+        }
+    }
+}

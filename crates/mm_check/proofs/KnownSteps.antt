@@ -1,0 +1,226 @@
+-- Where the moves of a proof stop, and the lines of the steps before.
+use Rattle.std.proofs.Common.{◌≡◌, ℕ, ◌+◌, List, [], ◌∷◌, ◌++◌, length, take, Bool, true, false}
+use Rattle.std.proofs.Common.{Option, Some, None, inl, inr, refl, sym, ap, subst, ◌∙◌, append-nil}
+use Rattle.std.specs.List.{AllZip}
+use Rattle.mm_text.proofs.Lists.{zip_length}
+use Rattle.mm_frame.specs.Sentence.{Sentence}
+use Rattle.mm_step.specs.declared.fault.ProofRule.{ProofRule}
+use Rattle.mm_listing.specs.declared.halt.Halt.{Halt}
+use Rattle.mm_listing.specs.declared.lines.Line.{Line}
+use Rattle.mm_step.specs.declared.profile.Profile.{Profile}
+use Rattle.mm_step.specs.declared.profile.Profile.TheVariants.{Lenient}
+use Rattle.mm_listing.specs.Halted.{HaltsProof, StopsWith}
+use Rattle.mm_proof.specs.KnownPrefix.{Pass}
+use Rattle.mm_listing.specs.Listing.{AreListed, ListedStep, TellsStep}
+use Rattle.mm_step.specs.Moves.{Move, steps_in}
+use Rattle.mm_proof.specs.Parsed.{OfProof, SaySteps}
+use Rattle.mm_step.specs.Profiles.{limit_of}
+use Rattle.mm_step.specs.Proof.{IsWithin, Passed}
+use Rattle.mm_proof.specs.Proof.{IsMoveFault, IsMovesFault, Prove}
+use Rattle.mm_proof.specs.ReadSteps.{ReadSteps}
+use Rattle.mm_step.specs.Steps.{IsProofNumber}
+use Rattle.mm_step.specs.Substitution.{Expression}
+use Rattle.mm_proof.specs.Tokens.{is_incomplete, SayMoves}
+use Rattle.mm_proof.specs.Verified.{OfMoves}
+use Rattle.mm_proof.proofs.ProofVerdicts.PassedMoves.{prove_at_end}
+use Rattle.mm_check.specs.Alone.{AreStepsBefore}
+use Rattle.mm_facts.specs.Explained.{judged_tokens}
+use Rattle.mm_facts.specs.Explained.{IsTokensFault}
+use Rattle.mm_explain.specs.Mirror.Reached.{AreTried, tried_as}
+use Rattle.mm_render.specs.Shown.{IsListingText, listing_text}
+use Rattle.mm_explain.proofs.LoneProofs.TriedTokens.{judged_where, moves_fault, moves_tried, SayJudged}
+
+-- ---- why no more moves pass
+
+module _ (before : List Sentence) (s : Sentence) (moves earlier : List (Move (List ℕ)))
+    (stack kept : List Expression) where
+  abbrev Fits : List (List ℕ) → Type 0
+  Fits = IsWithin (limit_of Lenient)
+
+  -- all passed
+  all_passed : moves ≡ earlier ++ [] → Passed Fits before earlier stack kept
+      → Passed Fits before moves stack kept
+  all_passed parts passed =
+      subst (λ (ms : List (Move (List ℕ))). Passed Fits before ms stack kept)
+      (sym (parts ∙ append-nil earlier)) passed
+
+  stops_at : (left : List (Move (List ℕ))) → moves ≡ earlier ++ left
+      → Passed Fits before earlier stack kept → (b : Bool) (rule : ProofRule)
+      → StopsWith Fits before s b stack kept left (Some rule)
+      → (b ≡ false → IsMovesFault Fits before s moves rule (steps_in earlier + 1))
+      × (b ≡ true → IsMoveFault Fits before moves rule (steps_in earlier + 1))
+  stops_at [] parts passed b rule stops = (
+    (λ whole. inr (record {
+      stack = stack;
+      kept = kept;
+      passed = all_passed parts passed;
+      number = ap (λ (ms : List (Move (List ℕ))). steps_in ms + 1)
+          (sym (parts ∙ append-nil earlier));
+      broken = stops.1;
+    })),
+    λ prefix. absurd (let whole = stops.0 in cc),
+  )
+  stops_at (move ∷ more) parts passed b rule stops =
+      let fault : IsMoveFault Fits before moves rule (steps_in earlier + 1) = record {
+        earlier = earlier;
+        move = move;
+        later = more;
+        parts = parts;
+        number = refl;
+        stack = stack;
+        kept = kept;
+        passed = passed;
+        fault = stops;
+      } in
+      ((λ whole. inl fault), λ prefix. fault)
+
+  stops_well : (left : List (Move (List ℕ))) → moves ≡ earlier ++ left
+      → Passed Fits before earlier stack kept → (b : Bool)
+      → StopsWith Fits before s b stack kept left None
+      → (moves ≡ earlier) × (b ≡ false → Prove Fits before s moves)
+      × (b ≡ true → Pass Fits before moves)
+  stops_well [] parts passed b (inl prefix) = (
+    parts ∙ append-nil earlier,
+    (λ whole. absurd cc),
+    λ yes. (stack, kept, all_passed parts passed),
+  )
+  stops_well [] parts passed b (inr same) = (
+    parts ∙ append-nil earlier,
+    (λ whole. prove_at_end Fits before s moves kept
+        (subst (λ (es : List Expression). Passed Fits before moves es kept) same
+        (all_passed parts passed))),
+    λ prefix. (stack, kept, all_passed parts passed),
+  )
+  stops_well (move ∷ more) parts passed b stops = absurd stops
+
+-- ---- the lines before
+
+-- the text is that of the steps that lines tell, whichever these are
+abbrev pub IsTextOfLines : List Sentence → List Line → List ℕ → Type 0
+IsTextOfLines st lines text =
+    (steps : List ListedStep) → AllZip (TellsStep st) lines steps → text ≡ listing_text steps
+
+module _ (st : List Sentence) (index : ℕ) (s : Sentence) (tokens : List (List ℕ))
+    (moves : List (Move (List ℕ))) (b : Bool) (halt : Halt) (open_one : is_incomplete tokens ≡ b)
+    (said : SayJudged (take index st) s (judged_where b tokens) moves)
+    (halted : HaltsProof (limit_of Lenient) st (take index st) s b moves halt) where
+  abbrev before : List Sentence
+  before = take index st
+
+  -- as many lines as steps
+  as_many : length halt.lines.items ≡ steps_in halted.there.earlier
+  as_many =
+      zip_length (TellsStep st) halt.lines.items halted.lines.0 halted.lines.2
+      ∙ halted.lines.1.count
+
+  pub halt_fault : (rule : ProofRule) → halt.rule ≡ Some rule
+      → IsTokensFault Lenient before s tokens rule (length halt.lines.items + 1)
+  halt_fault rule is =
+      let there = halted.there in
+      let stops = subst
+      (λ (o : Option ProofRule). StopsWith (IsWithin (limit_of Lenient)) before s b there.stack
+      there.kept there.left o)
+      is there.stops in
+      let fault =
+      stops_at before s moves there.earlier there.stack there.kept there.left there.parts
+      there.passed b rule stops in
+      rw as_many (moves_fault before s tokens moves b open_one said rule
+      (steps_in there.earlier + 1) fault.0 fault.1)
+
+  pub halt_shown : (text : List ℕ) → IsTextOfLines st halt.lines.items text
+      → AreStepsBefore before s (judged_tokens tokens) (length halt.lines.items + 1) text
+  halt_shown text laid =
+      let there = halted.there in
+      let judged : SayMoves before s (judged_tokens tokens) (there.earlier ++ there.left) =
+      subst (λ (ms : List (Move (List ℕ))). SayMoves before s (judged_tokens tokens) ms) there.parts
+      (subst (λ (c : Bool). SayMoves before s (judged_where c tokens) moves) (sym open_one)
+      said.1) in
+      inr (
+        there.earlier,
+        there.left,
+        judged,
+        ap (λ (n : ℕ). n + 1) as_many,
+        (halted.lines.0, halted.lines.1, laid halted.lines.0 halted.lines.2),
+      )
+
+  -- all passed
+  passed_well : halt.rule ≡ None → (moves ≡ halted.there.earlier)
+      × (b ≡ false → Prove (IsWithin (limit_of Lenient)) before s moves)
+      × (b ≡ true → Pass (IsWithin (limit_of Lenient)) before moves)
+  passed_well none =
+      let there = halted.there in
+      stops_well before s moves there.earlier there.stack there.kept there.left there.parts
+      there.passed b
+      (subst
+      (λ (o : Option ProofRule). StopsWith (IsWithin (limit_of Lenient)) before s b there.stack
+      there.kept there.left o)
+      none there.stops)
+
+  pub halt_tried : halt.rule ≡ None → AreTried before s tokens (tried_as b)
+  halt_tried none =
+      let well = passed_well none in
+      moves_tried before s tokens moves b open_one said well.1 well.2
+
+  pub halt_listed : halt.rule ≡ None → (text : List ℕ) → IsTextOfLines st halt.lines.items text
+      → IsListingText before s (judged_where b tokens) text
+  halt_listed none text laid =
+      let same = (passed_well none).0 in
+      record {
+        moves = moves;
+        told = said.1;
+        steps = halted.lines.0;
+        listed = subst (λ (ms : List (Move (List ℕ))). AreListed before ms halted.lines.0)
+            (sym same) halted.lines.1;
+        laid = laid halted.lines.0 halted.lines.2;
+      }
+
+-- ---- of the `$p` with a number
+
+module _ (st : List Sentence) (id : ℕ) (tokens : List (List ℕ)) (steps : ReadSteps) (halt : Halt)
+    (said : OfProof st id (λ index s. SaySteps st index s (judged_tokens tokens) steps.moves))
+    (prefix : steps.prefix ≡ is_incomplete tokens) (profile : steps.profile ≡ Lenient)
+    (halted : OfMoves st id steps.moves (λ index s moves.
+    HaltsProof (limit_of steps.profile) st (take index st) s steps.prefix moves halt)) where
+  judged : (index : ℕ) (s : Sentence) (number : IsProofNumber st id index s)
+      → SayJudged (take index st) s (judged_where steps.prefix tokens) (said index s number).1
+  judged index s number =
+      let told = said index s number in
+      subst (λ (b : Bool). SayJudged (take index st) s (judged_where b tokens) told.1) (sym prefix)
+      (told.0, told.2)
+
+  there : (index : ℕ) (s : Sentence) (number : IsProofNumber st id index s)
+      → HaltsProof (limit_of Lenient) st (take index st) s steps.prefix (said index s number).1 halt
+  there index s number =
+      let told = said index s number in
+      subst (λ (p : Profile). HaltsProof (limit_of p) st (take index st) s steps.prefix told.1 halt)
+      profile (halted index s told.1 number told.3)
+
+  pub known_fault : (rule : ProofRule) → halt.rule ≡ Some rule → (n : ℕ)
+      → n ≡ length halt.lines.items
+      → OfProof st id (λ index s. IsTokensFault Lenient (take index st) s tokens rule (n + 1))
+  known_fault rule is n count index s number =
+      rw count (halt_fault st index s tokens (said index s number).1 steps.prefix halt (sym prefix)
+      (judged index s number) (there index s number) rule is)
+
+  pub known_shown : (n : ℕ) → n ≡ length halt.lines.items → (text : List ℕ)
+      → IsTextOfLines st halt.lines.items text
+      → OfProof st id (λ index s.
+      AreStepsBefore (take index st) s (judged_tokens tokens) (n + 1) text)
+  known_shown n count text laid index s number =
+      rw count (halt_shown st index s tokens (said index s number).1 steps.prefix halt (sym prefix)
+      (judged index s number) (there index s number) text laid)
+
+  pub known_tried : halt.rule ≡ None → (b : Bool) → steps.prefix ≡ b
+      → OfProof st id (λ index s. AreTried (take index st) s tokens (tried_as b))
+  known_tried none b is index s number =
+      subst (λ (c : Bool). AreTried (take index st) s tokens (tried_as c)) is
+      (halt_tried st index s tokens (said index s number).1 steps.prefix halt (sym prefix)
+      (judged index s number) (there index s number) none)
+
+  pub known_listed : halt.rule ≡ None → (b : Bool) → steps.prefix ≡ b → (text : List ℕ)
+      → IsTextOfLines st halt.lines.items text
+      → OfProof st id (λ index s. IsListingText (take index st) s (judged_where b tokens) text)
+  known_listed none b is text laid index s number =
+      subst (λ (c : Bool). IsListingText (take index st) s (judged_where c tokens) text) is
+      (halt_listed st index s tokens (said index s number).1 steps.prefix halt (sym prefix)
+      (judged index s number) (there index s number) none text laid)

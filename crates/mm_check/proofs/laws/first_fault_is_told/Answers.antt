@@ -1,6 +1,0 @@
--- By the law of all faults.
-use Rattle.mm_check.proofs.Verdicts.FaultLists as lists
-use Rattle.mm_check.proofs.laws.first_fault_is_told.Goals as goal
-
-pub returns : goal.returns
-returns c = lists.first_fault

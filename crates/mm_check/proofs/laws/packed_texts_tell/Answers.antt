@@ -1,6 +1,0 @@
--- By the law of packed texts.
-use Rattle.mm_check.proofs.Saving.ProofTexts.{packed_texts}
-use Rattle.mm_check.proofs.laws.packed_texts_tell.Goals as goal
-
-pub returns : goal.returns
-returns c = packed_texts

@@ -1,5 +1,0 @@
-use Rattle.mm_check.proofs.Saving.SavedOnce.{saved_proof_is_strict}
-use Rattle.mm_check.proofs.laws.saved_proof_is_strict.Goals as goal
-
-pub returns : goal.returns
-returns c = saved_proof_is_strict

@@ -1,5 +1,0 @@
-use Rattle.mm_check.proofs.Saving.SavedOnce.{saving_again}
-use Rattle.mm_check.proofs.laws.saving_again_changes_nothing.Goals as goal
-
-pub returns : goal.returns
-returns c = saving_again

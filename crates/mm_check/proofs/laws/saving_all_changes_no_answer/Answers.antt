@@ -1,5 +1,0 @@
-use Rattle.mm_check.proofs.Saving.AllSavedFiles.{saving_all_changes_no_answer}
-use Rattle.mm_check.proofs.laws.saving_all_changes_no_answer.Goals as goal
-
-pub returns : goal.returns
-returns c = saving_all_changes_no_answer

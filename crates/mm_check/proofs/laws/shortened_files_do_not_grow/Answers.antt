@@ -1,5 +1,0 @@
-use Rattle.mm_check.proofs.Saving.ShortenedProofs.{all_shortened_no_longer}
-use Rattle.mm_check.proofs.laws.shortened_files_do_not_grow.Goals as goal
-
-pub returns : goal.returns
-returns c = all_shortened_no_longer

@@ -1,9 +1,0 @@
--- Each number is that of a label.
-use Rattle.std.proofs.Common.{◌<◌, ℕ, length}
-use Rattle.mm_frame.specs.declared.number.LabelId.{LabelId}
-use Rattle.mm_check.proofs.Numbers.{all_at}
-use Rattle.mm_check.proofs.reply.push_labels.Goals as goal
-
-pub push_label-requires : goal.push_label-requires
-push_label-requires c =
-    all_at (λ (id : LabelId). id.0) (λ (n : ℕ). n < length c.args.checked.now.labels) c.args.numbers.now c.loop-number.number-index _ c.requires c.loop-number-test.true

@@ -1,9 +1,0 @@
--- The lines so far are those of the numbers so far.
-use Rattle.std.proofs.Common.{◌≡◌, ◌++◌, map, take}
-use Rattle.mm_check.specs.Reply.{lines_of}
-use Rattle.mm_check.specs.Answer.{labels_at}
-use Rattle.mm_check.proofs.reply.push_labels.Given as goal
-
-abbrev pub invariant-loop-number : goal.invariant-loop-number
-invariant-loop-number l =
-    l.out.items ≡ l.fn.out.items ++ lines_of (labels_at l.checked.labels (map (λ id. id.0) (take l.number-index l.numbers)))

@@ -1,7 +1,0 @@
--- The numbers so far are marked.
-use Rattle.std.proofs.Common.{map, take}
-use Rattle.mm_check.proofs.Questions.RestsOn.{IsMarkedBy}
-use Rattle.mm_check.proofs.report.mark.Given as goal
-
-abbrev pub invariant-loop-number : goal.invariant-loop-number
-invariant-loop-number l = IsMarkedBy l.fn.marks l.marks (map (λ id. id.0) (take l.number-index l.numbers))

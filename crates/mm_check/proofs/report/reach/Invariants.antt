@@ -1,7 +1,0 @@
--- The proofs from the last one down to this index were passed.
-use Rattle.std.proofs.Common.{◌-◌, length}
-use Rattle.mm_check.proofs.Questions.RestsOn.{IsMarking}
-use Rattle.mm_check.proofs.report.reach.Given as goal
-
-abbrev pub invariant-loop-step : goal.invariant-loop-step
-invariant-loop-step l = IsMarking l.kept l.theorem.0 (length l.kept - l.step) l.marks.items

@@ -1,7 +1,0 @@
--- The rows of the proofs so far.
-use Rattle.std.proofs.Common.{map}
-use Rattle.mm_check.proofs.Questions.SettledTheorems.{AreRows}
-use Rattle.mm_check.proofs.rows.rows_of.Given as goal
-
-abbrev pub invariant-loop-at : goal.invariant-loop-at
-invariant-loop-at l = AreRows l.kept (map (λ x. x.0) l.numbers) l.at l.rows

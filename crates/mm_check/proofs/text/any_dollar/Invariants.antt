@@ -1,8 +1,0 @@
--- None of the tokens so far holds one.
-use Rattle.std.proofs.Common.{◌≡◌, false, take}
-use Rattle.mm_code.specs.Layout.{texts}
-use Rattle.mm_check.specs.Compared.{hold_dollar}
-use Rattle.mm_check.proofs.text.any_dollar.Given as goal
-
-abbrev pub invariant-loop-token : goal.invariant-loop-token
-invariant-loop-token l = hold_dollar (texts (take l.token-index l.tokens)) ≡ false

@@ -1,0 +1,456 @@
+-- Explanations of faults: how their text is put together, and that it is what they are to say.
+use Rattle.std.proofs.Common.{◌≡◌, ℕ, ◌-◌, ◌<◌, ◌≤◌, List, [], ◌∷◌, ◌++◌, map, take}
+use Rattle.std.proofs.Common.{filter, flat_map, length, length-append, append_assoc, append-nil}
+use Rattle.std.proofs.Common.{not}
+use Rattle.std.proofs.Common.{Bool, true, false, Option, Some, refl, sym, ap, subst, ◌∙◌, arith}
+use Rattle.std.proofs.Common.{inl, inr, slice_get, ◌&&◌, ◌==◌, codes, decimal}
+use Rattle.std.specs.List.{AllByRecursion, AllZip, sum_by}
+use Rattle.std.proofs.lemmas.Bool.{cases_lt, eqb-true, false_from_ne_true}
+use Rattle.std.proofs.lemmas.List.{take_all, take-append-le, map-append, length-map}
+use Rattle.std.proofs.lemmas.List.Elements.{filter-append}
+use Rattle.std.proofs.lemmas.Grind.{flat_map-append}
+use Rattle.mm_text.specs.declared.statement.Kind.TheVariants.{Provable}
+use Rattle.mm_text.specs.declared.file.File.{File}
+use Rattle.mm_text.specs.Statement.{PlainStatement, HasForm, is_provable}
+use Rattle.mm_text.specs.Files.{PlainFile, most_bytes, plain_file}
+use Rattle.mm_text.proofs.Lists.{all_push, zip_push, get_pushed, get_parted}
+use Rattle.mm_frame.specs.declared.number.LabelId.{LabelId}
+use Rattle.mm_frame.specs.declared.answer.Found.{Found}
+use Rattle.mm_frame.specs.declared.answer.Found.TheVariants as found
+use Rattle.mm_frame.specs.Sentence.{Sentence, sentence_of, IsLabelled}
+use Rattle.mm_frame.specs.Form.{IsSound}
+use Rattle.mm_frame.specs.Found.{Finds}
+use Rattle.mm_frame.proofs.Names.LabelNumbers.{numbered_unique}
+use Rattle.mm_frame.proofs.Rules.ObeyedRules.{one_label}
+use Rattle.mm_step.specs.declared.fault.ProofRule.{ProofRule}
+use Rattle.mm_step.specs.declared.profile.Profile.{Profile}
+use Rattle.mm_proof.specs.Tokens.{is_incomplete}
+use Rattle.mm_step.specs.Steps.{IsProofNumber}
+use Rattle.mm_rules.specs.declared.fault.Refusal.{Refusal}
+use Rattle.mm_rules.specs.Verdict.{PlainRefusal, sentences, proof_of, IsProofFault}
+use Rattle.mm_rules.specs.Answer.{plain_refusal}
+use Rattle.mm_explain.specs.Why.{IsExplanation, IsLastExplanation, TellsFaults}
+use Rattle.mm_verdict.specs.Why.{is_of_proofs}
+use Rattle.mm_explain.specs.Why.{most_explained, head_text}
+use Rattle.mm_facts.specs.Why.{IsFaultPlace}
+use Rattle.mm_explain.specs.Why.{more_text, count_text}
+use Rattle.mm_facts.specs.Explained.{IsTokensFault, Detail, AreDetails, detail_text, details_text}
+use Rattle.mm_verdict.specs.Faults.{HaveFaults}
+use Rattle.mm_explain.specs.Later.{IsUnknownIn, stated_later}
+use Rattle.mm_verdict.specs.Reply.{refusal_status}
+use Rattle.mm_rules.specs.declared.judge.Judged.{Judged}
+use Rattle.mm_rules.specs.declared.judge.Judged.TheVariants.{Faulty}
+use Rattle.mm_rules.specs.Mirror.Visits.{IsMet, refusals_in}
+use Rattle.mm_rules.specs.declared.rule.Rule.TheVariants as rules
+use Rattle.mm_explain.specs.Mirror.Reasons.{IsRefusedLast, IsExplainedBut, AreExplained, Notes}
+use Rattle.mm_explain.specs.Mirror.Reasons.{HasExplained}
+use Rattle.mm_explain.specs.Mirror.Standing.{IsPlaced}
+use Rattle.mm_explain.specs.HypothesisPlaces.{AreHypothesisPlaces}
+use Rattle.mm_explain.specs.declared.why.Reasons.{Reasons}
+use Rattle.mm_verdict.proofs.Verdicts.AcceptedStatements.{proof_fits}
+use Rattle.mm_rules.proofs.Judgements.JudgedProofs.{prefix_of}
+use Rattle.mm_verdict.proofs.Questions.AskedTheorems.{hypothesis_other}
+use denote.Ref.{Bor}
+
+-- ==== a text that is written part by part
+
+pub eight_parts : (out a b c d e f g h o₁ o₂ o₃ o₄ o₅ o₆ o₇ o₈ : List ℕ)
+    → o₁ ≡ out ++ a → o₂ ≡ o₁ ++ b → o₃ ≡ o₂ ++ c → o₄ ≡ o₃ ++ d → o₅ ≡ o₄ ++ e → o₆ ≡ o₅ ++ f
+    → o₇ ≡ o₆ ++ g → o₈ ≡ o₇ ++ h
+    → o₈ ≡ out ++ (a ++ b ++ c ++ d ++ e ++ f ++ g ++ h)
+eight_parts out a b c d e f g h o₁ o₂ o₃ o₄ o₅ o₆ o₇ o₈ h₁ h₂ h₃ h₄ h₅ h₆ h₇ h₈ =
+    rw (h₈, h₇, h₆, h₅, h₄, h₃, h₂, h₁) (simp append_assoc)
+
+-- how many more there are, where there are some
+pub some_more : (count : ℕ) → (count ≡ 0 → ⊥)
+    → more_text count ≡ codes "and " ++ decimal count ++ codes " more, which mm faults lists\n"
+some_more count some =
+    let other : (count == 0) ≡ false =
+    false_from_ne_true (count == 0) (λ e. some (eqb-true count 0 e)) in
+    rw other refl
+
+-- head, facts, and places
+pub explanation_told : (out head : List ℕ) (details places : List Detail) (o₁ o₂ o₃ : List ℕ)
+    → o₁ ≡ out ++ head → o₂ ≡ o₁ ++ details_text details → o₃ ≡ o₂ ++ details_text places
+    → o₃ ≡ out ++ (head ++ details_text (details ++ places))
+explanation_told out head details places o₁ o₂ o₃ h₁ h₂ h₃ =
+    rw (h₃, h₂, h₁, flat_map-append detail_text details places) (simp append_assoc)
+
+-- ==== the `$p` that a book took last
+
+module _ (statements before : List Sentence) (s : PlainStatement) (label : List ℕ)
+    (e : statements ≡ before ++ sentence_of s ∷ []) (formed : HasForm s)
+    (provable : s.kind ≡ Provable) (sound : IsSound statements)
+    (named : IsLabelled label (sentence_of s)) where
+  last_there : slice_get statements (length before) ≡ Some (sentence_of s)
+  last_there =
+      ap (λ (ss : List Sentence). slice_get ss (length before)) e
+      ∙ get_pushed before (sentence_of s)
+
+  -- what stands under its label is the `$p`
+  found_last : (index : ℕ) (t : Sentence) → slice_get statements index ≡ Some t → IsLabelled label t
+      → (index ≡ length before) × (t ≡ sentence_of s)
+  found_last index t there same =
+      let at : index ≡ length before =
+      one_label statements label index (length before) t (sentence_of s) sound.0 there last_there
+      same named in
+      (at, cc (at, there, last_there))
+
+  -- nothing else does
+  pub not_other : (result : Found) → Finds statements label result
+      → ((id : LabelId) → ¬ (result ≡ found.Assertion id)) → ⊥
+  not_other found.None finds other = finds (length before, sentence_of s, last_there, named)
+  not_other (found.Hypothesis id active) (index, t, numbered, labelled, kind, on) other =
+      hypothesis_other t.kind kind
+      (ap (λ (u : Sentence). u.kind) (found_last index t numbered.there labelled).1 ∙ provable)
+  not_other (found.Assertion id) finds other = other id refl
+
+  -- and that is its number
+  pub number_found : (id : LabelId) → Finds statements label (found.Assertion id)
+      → IsProofNumber statements id.0 (length before) (sentence_of s)
+  number_found id (index, t, numbered, labelled, kind) =
+      let (at, same) = found_last index t numbered.there labelled in
+      record { numbered = rw (at, same) at numbered; provable = provable }
+
+-- ==== the explanation of its refusal
+
+complete_there : (provable incomplete : Bool) → provable && not incomplete ≡ true
+    → incomplete ≡ false
+complete_there provable false e = refl
+complete_there true true e = cc e
+complete_there false true e = cc e
+
+incomplete_there : (provable incomplete : Bool) → provable && incomplete ≡ true
+    → incomplete ≡ true
+incomplete_there true incomplete e = e
+incomplete_there false incomplete e = cc e
+
+-- a proof is at fault as a whole, or as far as it is known
+tokens_fault : (profile : Profile) (before : List Sentence) (s : PlainStatement)
+    (rule : ProofRule) (step : ℕ) → IsProofFault profile before s rule step
+    → IsTokensFault profile before (sentence_of s) (proof_of s) rule step
+tokens_fault profile before s rule step (inl (whole, fault)) =
+    inl (complete_there (is_provable s.kind) (is_incomplete (proof_of s)) whole, fault)
+tokens_fault profile before s rule step (inr (part, fault)) =
+    inr (incomplete_there (is_provable s.kind) (is_incomplete (proof_of s)) part, fault)
+
+-- facts about a fault are facts about the same one
+facts_of : (profile : Profile) (s : Sentence) {before others : List Sentence}
+    {tokens texts : List (List ℕ)} {rule broken : ProofRule} {step number : ℕ} → tokens ≡ texts
+    → rule ≡ broken → step ≡ number → before ≡ others → (details : List Detail)
+    → AreDetails profile before s tokens rule step details
+    → AreDetails profile others s texts broken number details
+facts_of profile s {before} {others} {tokens} {texts} {rule} {broken} {step} {number} e f g h
+    details facts =
+    subst (λ ss. AreDetails profile ss s texts broken number details) h
+    (subst (λ n. AreDetails profile before s texts broken n details) g
+    (subst (λ r. AreDetails profile before s texts r step details) f
+    (subst (λ ts. AreDetails profile before s ts rule step details) e facts)))
+
+-- so is its place
+place_of_same : (profile : Profile) (s : PlainStatement) {before others : List Sentence}
+    {rule broken : ProofRule} {step number : ℕ} → rule ≡ broken → step ≡ number → before ≡ others
+    → (at : ℕ) → IsFaultPlace profile before s rule step at
+    → IsFaultPlace profile others s broken number at
+place_of_same profile s {before} {others} {rule} {broken} {step} {number} f g h at place =
+    subst (λ ss. IsFaultPlace profile ss s broken number at) h
+    (subst (λ n. IsFaultPlace profile before s broken n at) g
+    (subst (λ r. IsFaultPlace profile before s r step at) f place))
+
+-- so is the label that it breaks P2 at
+unknown_of : {before others : List Sentence} {tokens texts : List (List ℕ)}
+    {rule broken : ProofRule} → tokens ≡ texts → rule ≡ broken → before ≡ others
+    → (label : Option (List ℕ)) → IsUnknownIn before tokens rule label
+    → IsUnknownIn others texts broken label
+unknown_of {before} {others} {tokens} {texts} {rule} {broken} e f h label unknown =
+    subst (λ ss. IsUnknownIn ss texts broken label) h
+    (subst (λ r. IsUnknownIn before texts r label) f
+    (subst (λ ts. IsUnknownIn before ts rule label) e unknown))
+
+module _ {profile : Profile} {files : List PlainFile} {told : List Sentence} {s : PlainStatement}
+    {refusal : PlainRefusal} (r : IsRefusedLast profile files told s refusal) where
+  -- what the statements before it say, and what it says, is all that is told
+  pub told_parts : told ≡ sentences r.before ++ sentence_of s ∷ []
+  told_parts = r.same ∙ map-append sentence_of r.before (s ∷ [])
+
+  -- its proof is in room
+  pub proof_in_room : (tokens : List (List ℕ)) → tokens ≡ proof_of s
+      → sum_by length tokens ≤ most_bytes
+  proof_in_room tokens same =
+      rw same (proof_fits files (r.before ++ s ∷ r.after) r.ending (length r.before) s r.readable
+      r.reads (get_parted r.before r.after s))
+
+  -- where it stands
+  abbrev pub refused_place : (id count : ℕ) → count ≡ refusal.statement - 1
+      → IsProofNumber told id (length (sentences r.before)) (sentence_of s)
+      → IsPlaced files told id count
+  refused_place id count is mine =
+      let said = ap (λ (x : PlainRefusal). x.statement) r.refused.refused in
+      let counted : length r.before ≡ count = omega (arith, said, is) in
+      record {
+        readable = r.readable;
+        site = record {
+          before = r.before;
+          s = s;
+          after = r.after;
+          ending = r.ending;
+          reads = r.reads;
+          counted = counted;
+        };
+        told = told_parts;
+        number = subst (λ (n : ℕ). IsProofNumber told id n (sentence_of s))
+            (length-map r.before sentence_of ∙ counted) mine;
+      }
+
+  -- its number is one, and so what is said of the `$p` with the number is said of it
+  module _ (id : ℕ) (mine : IsProofNumber told id (length (sentences r.before)) (sentence_of s))
+    where
+      pub fault_there : (tokens : List (List ℕ)) → tokens ≡ proof_of s
+          → (rule : ProofRule) (step : ℕ) → rules.Proof rule ≡ refusal.rule → step ≡ refusal.step
+          → (index : ℕ) (t : Sentence) → IsProofNumber told id index t
+          → IsTokensFault profile (take index told) t tokens rule step
+      fault_there tokens same rule step one at index t number =
+          let (place, said) = numbered_unique told id index (length (sentences r.before)) t
+          (sentence_of s) number.numbered mine.numbered in
+          let told_rule : rules.Proof rule ≡ rules.Proof r.refused.rule =
+          one ∙ ap (λ (x : PlainRefusal). x.rule) r.refused.refused in
+          let told_step : step ≡ r.refused.step =
+          at ∙ ap (λ (x : PlainRefusal). x.step) r.refused.refused in
+          let same_rule : rule ≡ r.refused.rule = cc told_rule in
+          rw (
+            same,
+            said,
+            place,
+            same_rule,
+            told_step,
+            prefix_of told (sentences r.before) (sentence_of s) told_parts,
+          )
+          (tokens_fault profile (sentences r.before) s r.refused.rule r.refused.step
+          r.refused.fault)
+
+      pub explained_there : (tokens : List (List ℕ)) → tokens ≡ proof_of s
+          → (rule : ProofRule) (step : ℕ) → rules.Proof rule ≡ refusal.rule → step ≡ refusal.step
+          → (place : ℕ)
+          → IsFaultPlace profile (take (length (sentences r.before)) told) s rule step place
+          → (details : List Detail)
+          → AreDetails profile (take (length (sentences r.before)) told) (sentence_of s) tokens rule
+          step details
+          → (places : List Detail) → AreHypothesisPlaces files r.before s rule step places
+          → (label : Option (List ℕ))
+          → IsUnknownIn (take (length (sentences r.before)) told) tokens rule label
+          → IsExplainedBut profile files told s refusal label
+          (head_text files place refusal ++ details_text (details ++ places))
+      explained_there tokens same rule step one at place stands details facts places stand label
+          unknown =
+          let told_rule : rules.Proof rule ≡ rules.Proof r.refused.rule =
+          one ∙ ap (λ (x : PlainRefusal). x.rule) r.refused.refused in
+          let told_step : step ≡ r.refused.step =
+          at ∙ ap (λ (x : PlainRefusal). x.step) r.refused.refused in
+          let same_rule : rule ≡ r.refused.rule = cc told_rule in
+          let earlier = prefix_of told (sentences r.before) (sentence_of s) told_parts in (
+            r,
+            record {
+              before = r.before;
+              s = s;
+              after = r.after;
+              ending = r.ending;
+              reads = r.reads;
+              refused = r.refused;
+              details = details;
+              at = place;
+              place = place_of_same profile s same_rule told_step earlier place stands;
+              facts = facts_of profile (sentence_of s) same same_rule told_step earlier details
+                  facts;
+              places = places;
+              stand = subst
+                  (λ (n : ℕ). AreHypothesisPlaces files r.before s r.refused.rule n places)
+                  told_step
+                  (subst (λ (b : ProofRule). AreHypothesisPlaces files r.before s b step places)
+                  same_rule stand);
+              label = label;
+              unknown = unknown_of same same_rule earlier label unknown;
+              said = refl;
+            },
+          )
+
+-- the label that is stated further down is told behind it
+pub explained_later : {profile : Profile} {files : List PlainFile} {told : List Sentence}
+    {s : PlainStatement} {refusal : PlainRefusal} (label : Option (List ℕ)) (text : List ℕ)
+    (b : IsExplainedBut profile files told s refusal label text) (old middle new : List ℕ)
+    → middle ≡ old ++ text
+    → new ≡ middle ++ details_text (stated_later files label b.0.after)
+    → (whole : List ℕ) × IsExplanation profile files refusal whole × (new ≡ old ++ whole)
+explained_later {files} label text (r, explains) old middle new first put =
+    let later : List ℕ = details_text (stated_later files label r.after) in (
+      text ++ later,
+      explains,
+      put ∙ ap (λ m. m ++ later) first ∙ append_assoc old text later,
+    )
+
+-- ==== the refusals that are kept
+
+-- the refusal of what is met next
+pub refused_last : (profile : Profile) (files : List PlainFile) (taken : List PlainStatement)
+    (listed : List PlainRefusal) (told : List Sentence) (s : PlainStatement) (refusal : Refusal)
+    → IsMet profile files taken listed told s (Faulty refusal)
+    → IsRefusedLast profile files told s (plain_refusal refusal)
+refused_last profile files taken listed told s refusal met = record {
+  before = taken;
+  after = met.left.statements;
+  ending = met.left.ending;
+  readable = met.readable;
+  reads = met.reads;
+  same = met.same;
+  refused = met.came;
+}
+
+-- one more is explained, or kept without
+explained_more : (profile : Profile) (files : List PlainFile) (listed : List PlainRefusal)
+    (one : PlainRefusal) (old new : List ℕ) → is_of_proofs one.rule ≡ true
+    → (length listed < most_explained
+    → (text : List ℕ) × IsExplanation profile files one text × (new ≡ old ++ text))
+    → (most_explained ≤ length listed → new ≡ old)
+    → AreExplained profile files listed old
+    → AreExplained profile files (listed ++ one ∷ []) new
+explained_more profile files listed one old new proof few many explained =
+    let proofs = all_push (λ (r : PlainRefusal). is_of_proofs r.rule ≡ true) listed one
+    explained.proofs proof in
+    elim (cases_lt (length listed) most_explained) [
+      | inl short ↦
+          let (text, explains, put) = few short in
+          let whole : take most_explained (listed ++ one ∷ []) ≡ listed ++ one ∷ [] =
+          take_all most_explained (listed ++ one ∷ [])
+          (omega (arith, short, length-append listed (one ∷ []))) in
+          let each = rw (take_all most_explained listed (omega (arith, short))) at explained.each in
+          record {
+            proofs = proofs;
+            explanations = explained.explanations ++ text ∷ [];
+            each = rw whole (zip_push (IsExplanation profile files) listed explained.explanations
+                one text each explains);
+            said = rw (
+              put,
+              explained.said,
+              flat_map-append (λ t. t) explained.explanations (text ∷ []),
+              append-nil text,
+            ) refl;
+          }
+      | inr long ↦ record {
+        proofs = proofs;
+        explanations = explained.explanations;
+        each = rw (take-append-le most_explained listed (one ∷ []) long) explained.each;
+        said = many long ∙ explained.said;
+      }
+    ]
+
+-- so the visitor goes on
+pub noted : (profile : Profile) (files : List PlainFile) (first old new : Reasons)
+    (taken : List PlainStatement) (listed : List PlainRefusal) (told : List Sentence)
+    (s : PlainStatement) (refusal : Refusal)
+    → IsMet profile files taken listed told s (Faulty refusal) → Notes old refusal new
+    → HasExplained profile files first old taken listed
+    → HasExplained profile files first new (taken ++ s ∷ []) (listed ++ plain_refusal refusal ∷ [])
+noted profile files first old new taken listed told s refusal met notes seen =
+    let many : length old.refusals.items ≡ length listed =
+    sym (length-map old.refusals.items plain_refusal) ∙ ap length seen.kept in
+    record {
+      same_profile = notes.same_profile ∙ seen.same_profile;
+      same_files = ap (λ (fs : Bor (List File)). map plain_file fs.now) notes.same_files
+          ∙ seen.same_files;
+      kept = ap (map plain_refusal) notes.kept
+          ∙ map-append plain_refusal old.refusals.items (refusal ∷ [])
+          ∙ ap (λ (rs : List PlainRefusal). rs ++ plain_refusal refusal ∷ []) seen.kept;
+      explained = explained_more profile files listed (plain_refusal refusal) old.text.items
+          new.text.items (ap (λ (r : PlainRefusal). is_of_proofs r.rule) met.came.refused)
+          (λ short. rw (seen.same_profile, seen.same_files)
+          at (notes.few (omega (arith, many, short))))
+          (λ long. ap (λ t. t.items) (notes.many (omega (arith, many, long)))) seen.explained;
+      labels = rw seen.same_files at notes.labels;
+    }
+
+-- what isn't at fault changes nothing
+pub passed_over : (profile : Profile) (files : List PlainFile) (first now : Reasons)
+    (taken : List PlainStatement) (listed : List PlainRefusal) (s : PlainStatement)
+    (judged : Judged) → ((refusal : Refusal) → ¬ (judged ≡ Faulty refusal))
+    → HasExplained profile files first now taken listed
+    → HasExplained profile files first now (taken ++ s ∷ []) (listed ++ refusals_in judged)
+passed_over profile files first now taken listed s (Faulty refusal) sound seen =
+    absurd (sound refusal refl)
+passed_over profile files first now taken listed s judged sound seen =
+    rw (append-nil listed) (record {
+      same_profile = seen.same_profile;
+      same_files = seen.same_files;
+      kept = seen.kept;
+      explained = seen.explained;
+      labels = seen.labels;
+    })
+
+-- ==== the whole text
+
+-- refusals that are all of proofs, and such as are none
+of_proofs : (rs : List PlainRefusal) → AllByRecursion (λ r. is_of_proofs r.rule ≡ true) rs
+    → (filter (λ r. is_of_proofs r.rule) rs ≡ rs)
+    × (filter (λ r. not (is_of_proofs r.rule)) rs ≡ [])
+of_proofs [] all = (refl, refl)
+of_proofs (r ∷ rs) all =
+    let (some, none) = of_proofs rs all.1 in
+    (rw all.0 (ap (λ (l : List PlainRefusal). r ∷ l) some), rw all.0 none)
+
+of_others : (rs : List PlainRefusal) → AllByRecursion (λ r. is_of_proofs r.rule ≡ false) rs
+    → (filter (λ r. is_of_proofs r.rule) rs ≡ [])
+    × (filter (λ r. not (is_of_proofs r.rule)) rs ≡ rs)
+of_others [] all = (refl, refl)
+of_others (r ∷ rs) all =
+    let (none, some) = of_others rs all.1 in
+    (rw all.0 none, rw all.0 (ap (λ (l : List PlainRefusal). r ∷ l) some))
+
+module _ (profile : Profile) (files : List PlainFile) (listed : List PlainRefusal)
+    (refusals ends : List Refusal) (text₀ text₁ text₂ text : List ℕ) (status : ℕ)
+    (faults : HaveFaults profile files (listed ++ map plain_refusal ends))
+    (kept : map plain_refusal refusals ≡ listed)
+    (explained : AreExplained profile files listed text₀)
+    (others : AllByRecursion (λ r. is_of_proofs r.rule ≡ false) (map plain_refusal ends))
+    (put₁ : text₁ ≡ text₀ ++ more_text (length refusals - most_explained))
+    (told : List (List ℕ)) (ended : AllZip (IsLastExplanation files) (map plain_refusal ends) told)
+    (put₂ : text₂ ≡ text₁ ++ flat_map (λ t. t) told) where
+  tells : (count : ℕ) → count ≡ length (listed ++ map plain_refusal ends)
+      → text ≡ text₂ ++ count_text count
+      → TellsFaults profile files (listed ++ map plain_refusal ends) text
+  tells count counted put =
+      let E : List PlainRefusal = map plain_refusal ends in
+      let (all, none) = of_proofs listed explained.proofs in
+      let (nothing, rest) = of_others E others in
+      let proofs : filter (λ r. is_of_proofs r.rule) (listed ++ E) ≡ listed =
+      filter-append (λ r. is_of_proofs r.rule) listed E ∙ rw (all, nothing) (append-nil listed) in
+      let last : filter (λ r. not (is_of_proofs r.rule)) (listed ++ E) ≡ E =
+      filter-append (λ r. not (is_of_proofs r.rule)) listed E ∙ rw (none, rest) refl in
+      let long : length refusals ≡ length listed =
+      sym (length-map refusals plain_refusal) ∙ ap length kept in
+      record {
+        explanations = explained.explanations;
+        each = rw proofs explained.each;
+        last = told;
+        ended = rw last ended;
+        said = rw (proofs, ← counted, ← long, put, put₂, put₁, explained.said)
+            (simp append_assoc);
+      }
+
+  pub tells_why : (all : List Refusal) → all ≡ refusals ++ ends → 0 < length all
+      → text ≡ text₂ ++ count_text (length all)
+      → ((first : Refusal) (more : List Refusal) → all ≡ first ∷ more
+      → status ≡ refusal_status first.rule)
+      → (first : PlainRefusal) × (more : List PlainRefusal)
+      × HaveFaults profile files (first ∷ more) × TellsFaults profile files (first ∷ more) text
+      × (status ≡ refusal_status first.rule)
+  tells_why [] same some put ends = absurd (omega arith)
+  tells_why (first ∷ more) same some put ended =
+      let same_all : listed ++ map plain_refusal ends ≡ map plain_refusal (first ∷ more) =
+      ap (λ (rs : List PlainRefusal). rs ++ map plain_refusal ends) (sym kept)
+      ∙ sym (map-append plain_refusal refusals ends) ∙ ap (map plain_refusal) (sym same) in
+      let counted : length (first ∷ more) ≡ length (listed ++ map plain_refusal ends) =
+      sym (length-map (first ∷ more) plain_refusal) ∙ ap length (sym same_all) in (
+        plain_refusal first,
+        map plain_refusal more,
+        subst (HaveFaults profile files) same_all faults,
+        subst (λ rs. TellsFaults profile files rs text) same_all (tells _ counted put),
+        ended first more refl,
+      )

@@ -1,0 +1,11 @@
+pub mod LoneProofs
+pub mod Explanations
+pub mod LastFaults
+pub mod CutFiles
+pub mod LaterLabels
+pub mod Breaches
+pub mod InnermostBlocks
+pub mod NamesMet
+pub mod Collisions
+pub mod HypothesisScopes
+pub mod OwnHypotheses

@@ -1,0 +1,3 @@
+-- What is told of one proof that is at fault, incomplete or tried.
+pub mod LoneTheorems
+pub mod TriedTokens

@@ -1,0 +1,14 @@
+-- The files can't be taken, or the theorem is sought.
+use Rattle.std.proofs.Common.{map}
+use Rattle.mm_text.specs.Files.{plain_file}
+use Rattle.mm_text.proofs.Lists.{error_keeps}
+use Rattle.mm_explain.specs.declared.read_to.Unreached.TheVariants.{Check}
+use Rattle.mm_explain.proofs.LoneProofs.LoneTheorems.{load_unreached}
+use Rattle.mm_explain.proofs.read_to.read_to.Goals as goal
+
+pub returns-in_err-statements-clause-unreached : goal.returns-in_err-statements-clause-unreached
+returns-in_err-statements-clause-unreached c =
+    error_keeps c.from_residual.result (Check c.in_err-statements.field-0.0) _
+    c.from_residual.ensures.1
+    (load_unreached (map plain_file c.args.files.now) c.args.label.now c.in_err-statements.field-0.0
+    c.in_err-statements.ensures.load)

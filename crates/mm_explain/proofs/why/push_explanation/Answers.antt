@@ -1,0 +1,133 @@
+-- The proof at fault is that of the statement, and the text its head and the facts.
+use Rattle.std.proofs.Common.{ℕ, List, ◌++◌, ◌-◌, map, length, ap, refl, sym, subst, ◌∙◌}
+use Rattle.std.specs.Prelude.{option_map}
+use Rattle.mm_text.specs.Statement.{plain_statement}
+use Rattle.mm_text.specs.Files.{PlainFile, plain_file}
+use Rattle.mm_frame.specs.Sentence.{sentence_of}
+use Rattle.mm_code.specs.Layout.{texts}
+use Rattle.mm_rules.specs.Answer.{plain_refusal}
+use Rattle.mm_rules.specs.Verdict.{sentences}
+use Rattle.mm_explain.specs.Why.{head_text}
+use Rattle.mm_facts.specs.Explained.{details_text}
+use Rattle.mm_facts.specs.Mirror.Explaining.{IsCauseOf}
+use Rattle.mm_explain.proofs.Explanations.{told_parts, proof_in_room, fault_there, explained_there}
+use Rattle.mm_explain.proofs.Explanations.{refused_place, explanation_told}
+use Rattle.mm_explain.proofs.why.push_explanation.Goals as goal
+
+pub cause_of-requires-clause-proof : goal.cause_of-requires-clause-proof
+cause_of-requires-clause-proof c =
+    let r = c.requires.refused in (
+      length (sentences r.before),
+      sentence_of (plain_statement c.args.statement.now),
+      c.last_number-id.ensures (sentences r.before) (told_parts r),
+    )
+
+pub cause_of-requires-clause-room : goal.cause_of-requires-clause-room
+cause_of-requires-clause-room c =
+    proof_in_room c.requires.refused (texts c.deref.result.now)
+    (ap texts c.deref.ensures.value ∙ c.in_ok-tokens.ensures)
+
+pub cause_of-requires-clause-fault : goal.cause_of-requires-clause-fault
+cause_of-requires-clause-fault c =
+    let r = c.requires.refused in
+    fault_there r c.last_number-id.result.0
+    (c.last_number-id.ensures (sentences r.before) (told_parts r)) (texts c.deref.result.now)
+    (ap texts c.deref.ensures.value ∙ c.in_ok-tokens.ensures) c.fault_in-fault.result.0
+    c.fault_in-fault.result.1 c.fault_in-fault.ensures.rule c.fault_in-fault.ensures.step
+
+pub fault_place-requires-clause-tokens : goal.fault_place-requires-clause-tokens
+fault_place-requires-clause-tokens c =
+    ap texts c.deref-2.ensures.value ∙ c.in_ok-tokens.ensures
+
+pub fault_place-requires-clause-room : goal.fault_place-requires-clause-room
+fault_place-requires-clause-room c =
+    proof_in_room c.requires.refused (texts c.deref-2.result.now)
+    (ap texts c.deref-2.ensures.value ∙ c.in_ok-tokens.ensures)
+
+pub fault_place-requires-clause-cause : goal.fault_place-requires-clause-cause
+fault_place-requires-clause-cause c =
+    let r = c.requires.refused in
+    let same = ap texts (c.deref.ensures.value ∙ sym c.deref-2.ensures.value) in (
+      c.args.profile,
+      c.args.book.now.statements,
+      c.last_number-id.result.0,
+      length (sentences r.before),
+      c.fault_in-fault.result.0,
+      c.fault_in-fault.result.1,
+      c.last_number-id.ensures (sentences r.before) (told_parts r),
+      subst
+          (λ (ts : List (List ℕ)). IsCauseOf c.args.profile c.args.book.now.statements
+          c.last_number-id.result.0 ts c.fault_in-fault.result.0 c.fault_in-fault.result.1
+          c.in_ok-cause.cause)
+          same c.in_ok-cause.ensures,
+    )
+
+pub push_cause-requires-clause-proof : goal.push_cause-requires-clause-proof
+push_cause-requires-clause-proof c =
+    let r = c.requires.refused in (
+      length (sentences r.before),
+      sentence_of (plain_statement c.args.statement.now),
+      c.last_number-id.ensures (sentences r.before) (told_parts r),
+    )
+
+pub push_cause-requires-clause-cause : goal.push_cause-requires-clause-cause
+push_cause-requires-clause-cause c =
+    (texts c.deref.result.now, c.fault_in-fault.result.1, c.in_ok-cause.ensures)
+
+pub push_hypothesis_places-requires : goal.push_hypothesis_places-requires
+push_hypothesis_places-requires c =
+    let r = c.requires.refused in
+    refused_place r c.last_number-id.result.0 (c.args.refusal.now.statement - 1) refl
+    (c.last_number-id.ensures (sentences r.before) (told_parts r))
+
+pub unknown_label-requires : goal.unknown_label-requires
+unknown_label-requires c =
+    let r = c.requires.refused in (
+      c.args.profile,
+      c.args.book.now.statements,
+      c.last_number-id.result.0,
+      length (sentences r.before),
+      sentence_of (plain_statement c.args.statement.now),
+      texts c.deref.result.now,
+      c.fault_in-fault.result.1,
+      c.last_number-id.ensures (sentences r.before) (told_parts r),
+      c.in_ok-cause.ensures,
+    )
+
+pub returns : goal.returns
+returns c =
+    let r = c.requires.refused in
+    let st = c.args.book.now.statements in
+    let files : List PlainFile = map plain_file c.args.files.now in
+    let id = c.last_number-id.result.0 in
+    let rule = c.fault_in-fault.result.0 in
+    let step = c.fault_in-fault.result.1 in
+    let tokens = texts c.deref.result.now in
+    let index = length (sentences r.before) in
+    let s = plain_statement c.args.statement.now in
+    let mine = c.last_number-id.ensures (sentences r.before) (told_parts r) in
+    let same = ap texts (c.deref.ensures.value ∙ sym c.deref-2.ensures.value) in
+    let caused = c.in_ok-cause.ensures in
+    let place = c.fault_place.ensures c.args.profile st id index rule step mine
+    (subst
+    (λ (ts : List (List ℕ)). IsCauseOf c.args.profile st id ts rule step c.in_ok-cause.cause) same
+    caused) in
+    let placed = refused_place r id (c.args.refusal.now.statement - 1) refl mine in
+    let own = ap texts c.deref.ensures.value ∙ c.in_ok-tokens.ensures in
+    let (details, facts, put) =
+    c.in_ok-push_cause.ensures tokens step caused index (sentence_of s) mine in
+    let head = head_text files c.fault_place.result (plain_refusal c.args.refusal.now) in
+    let (places, stand, more) = c.in_ok-push_hypothesis_places.ensures placed c.args.profile step
+    (subst
+    (λ (ts : List (List ℕ)). IsCauseOf c.args.profile st id ts rule step c.in_ok-cause.cause) own
+    caused) in (
+      head ++ details_text (details ++ places),
+      explained_there r id mine tokens own rule step c.fault_in-fault.ensures.rule
+          c.fault_in-fault.ensures.step c.fault_place.result place details facts places stand
+          (option_map (λ l. l.now) c.unknown_label.result)
+          (c.unknown_label.ensures c.args.profile st id index (sentence_of s) tokens step mine
+          caused),
+      explanation_told c.args.out.now.items head details places c.push_head.new.out.items
+          c.push_cause.new.out.items c.push_hypothesis_places.new.out.items
+          c.in_ok-push_head.ensures put more,
+    )

@@ -1,0 +1,9 @@
+pub mod Reply
+pub mod Near
+pub mod Mirror
+pub mod TextFacts
+pub mod HypothesisPlaces
+pub mod LastFacts
+pub mod Later
+pub mod Why
+pub mod MeaningFacts

@@ -1,0 +1,98 @@
+-- What the code knows of the faults that it has explained. This file mirrors the code, and is cited
+-- by private contracts alone.
+use Rattle.std.specs.Prelude.{◌≡◌, ℕ, ◌<◌, ◌≤◌, List, [], ◌∷◌, ◌++◌, map, take, length}
+use Rattle.std.specs.Prelude.{true, Option, option_map, ◌⊎◌}
+use Rattle.std.specs.List.{flat_map, AllZip, AllByRecursion}
+use Rattle.mm_text.specs.declared.token.Token.{Token}
+use Rattle.mm_text.specs.Token.{PlainToken, plain_token}
+use Rattle.mm_text.specs.Statement.{PlainStatement}
+use Rattle.mm_text.specs.Files.{PlainFile, plain_file}
+use Rattle.mm_text.specs.Reading.{PlainFault, Reads}
+use Rattle.mm_frame.specs.Sentence.{Sentence}
+use Rattle.mm_step.specs.declared.profile.Profile.{Profile}
+use Rattle.mm_rules.specs.declared.fault.Refusal.{Refusal}
+use Rattle.mm_explain.specs.declared.why.Reasons.{Reasons}
+use Rattle.mm_explain.specs.declared.why.Unaccepted.{Unaccepted}
+use Rattle.mm_explain.specs.declared.why.Unaccepted.TheVariants as why
+use Rattle.mm_rules.specs.Verdict.{PlainRefusal, CanBeRead, HasVerdict, Load, sentences}
+use Rattle.mm_verdict.specs.Faults.{HaveFaults}
+use Rattle.mm_rules.specs.Faults.{IsProofRefusal}
+use Rattle.mm_rules.specs.Answer.{plain_refusal}
+use Rattle.mm_verdict.specs.Reply.{refusal_status}
+use Rattle.mm_rules.specs.Status.{number_of}
+use Rattle.mm_facts.specs.Explained.{details_text}
+use Rattle.mm_explain.specs.Later.{stated_later}
+use Rattle.mm_explain.specs.Why.{IsExplanation, TellsFaults, most_explained}
+use Rattle.mm_verdict.specs.Why.{is_of_proofs}
+
+-- The statement was told last, and this is its refusal for the fault of its proof.
+pub record IsRefusedLast (profile : Profile) (files : List PlainFile) (told : List Sentence)
+    (s : PlainStatement) (refusal : PlainRefusal) : Type 0 where
+  pub before : List PlainStatement
+  pub after : List PlainStatement
+  pub ending : Option PlainFault
+  pub readable : CanBeRead files
+  pub reads : Reads files (before ++ s ∷ after) ending
+  pub same : told ≡ sentences (before ++ s ∷ [])
+  pub refused : IsProofRefusal profile files before s refusal
+
+-- The text explains the refusal of the statement that was told last, but for where this label, at
+-- which its proof breaks P2, is stated further down.
+abbrev pub IsExplainedBut : Profile → List PlainFile → List Sentence → PlainStatement → PlainRefusal
+    → (label : Option (List ℕ)) → (text : List ℕ) → Type 0
+IsExplainedBut profile files told s refusal label text =
+    (r : IsRefusedLast profile files told s refusal)
+    × IsExplanation profile files refusal (text ++ details_text (stated_later files label r.after))
+
+-- these are the labels of all statements of the files
+pub record AreLabelsIn (files : List PlainFile)
+    (labels : List (Option PlainToken)) : Type 0 where
+  pub statements : List PlainStatement
+  pub ending : Option PlainFault
+  pub reads : Reads files statements ending
+  pub listed : labels ≡ map (λ s. s.label) statements
+
+-- these are they, or they weren't read yet
+abbrev pub AreKeptLabels : List PlainFile → List (Option Token) → Type 0
+AreKeptLabels files labels =
+    (labels ≡ []) ⊎ AreLabelsIn files (map (option_map plain_token) labels)
+
+-- The text is the explanations of the first of these refusals, all of which are of proofs.
+pub record AreExplained (profile : Profile) (files : List PlainFile)
+    (refusals : List PlainRefusal) (text : List ℕ) : Type 0 where
+  pub proofs : AllByRecursion (λ r. is_of_proofs r.rule ≡ true) refusals
+  pub explanations : List (List ℕ)
+  pub each : AllZip (IsExplanation profile files) (take most_explained refusals) explanations
+  pub said : text ≡ flat_map (λ t. t) explanations
+
+-- the refusals listed are those kept, and they are explained
+pub record HasExplained (profile : Profile) (files : List PlainFile) (first now : Reasons)
+    (taken : List PlainStatement) (listed : List PlainRefusal) : Type 0 where
+  pub same_profile : now.profile ≡ profile
+  pub same_files : map plain_file now.files.now ≡ files
+  pub kept : map plain_refusal now.refusals.items ≡ listed
+  pub explained : AreExplained profile files listed now.text.items
+  pub labels : AreKeptLabels files now.labels.items
+
+-- The refusal of a proof is kept with the others, and it is explained unless enough are.
+pub record Notes (old : Reasons) (refusal : Refusal) (new : Reasons) : Type 0 where
+  pub same_profile : new.profile ≡ old.profile
+  pub same_files : new.files ≡ old.files
+  pub kept : new.refusals.items ≡ old.refusals.items ++ refusal ∷ []
+  pub few : length old.refusals.items < most_explained
+      → (text : List ℕ)
+      × IsExplanation old.profile (map plain_file old.files.now) (plain_refusal refusal) text
+      × (new.text.items ≡ old.text.items ++ text)
+  pub many : most_explained ≤ length old.refusals.items → new.text ≡ old.text
+  pub labels : AreKeptLabels (map plain_file old.files.now) new.labels.items
+
+-- Why the files aren't accepted: they can't be taken; or this tells all faults, with the status of
+-- the first; or memory ran out.
+abbrev pub TellsWhy : Profile → List PlainFile → Unaccepted → Type 0
+TellsWhy profile files (why.Load rule) = HasVerdict profile files (Load rule)
+TellsWhy profile files (why.Refused text status) =
+    (first : PlainRefusal) × (others : List PlainRefusal)
+    × HaveFaults profile files (first ∷ others)
+    × TellsFaults profile files (first ∷ others) text.items
+    × (number_of status ≡ refusal_status first.rule)
+TellsWhy profile files why.Memory = Unit {0}

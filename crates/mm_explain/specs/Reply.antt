@@ -1,0 +1,70 @@
+-- The reply to a command: its text and its status, which are this project's own.
+use Rattle.std.specs.Prelude.{◌≡◌, ℕ, List, [], ◌∷◌, ◌++◌}
+use Rattle.std.specs.Prelude.{true, false, None}
+use Rattle.std.specs.Prelude.{◌⊎◌, codes}
+use Rattle.mm_text.specs.Files.{PlainFile}
+use Rattle.mm_code.specs.Words.{tokens_in}
+use Rattle.mm_frame.specs.Sentence.{Sentence}
+use Rattle.mm_step.specs.declared.fault.ProofRule.{ProofRule}
+use Rattle.mm_proof.specs.Tokens.{is_incomplete}
+use Rattle.mm_proof.specs.UnderProfile.{IsProvedUnder, IsPrefixAllowedUnder}
+use Rattle.mm_step.specs.declared.profile.Profile.TheVariants.{Lenient}
+use Rattle.mm_rules.specs.declared.rule.Rule.{Rule}
+use Rattle.mm_rules.specs.declared.rule.Rule.TheVariants as rules
+use Rattle.mm_rules.specs.declared.rule.AskRule.TheVariants.{A3}
+use Rattle.mm_rules.specs.declared.ask.AskFault.TheVariants as ask
+use Rattle.mm_verdict.specs.Alone.{HasProofTokens}
+use Rattle.mm_verdict.specs.Alone.{BreaksTokens}
+use Rattle.mm_facts.specs.Explained.{Detail, IsTokensFault, AreDetails, AreLeftOver, details_text}
+use Rattle.mm_explain.specs.Why.{IsTextPlace, head_at}
+use Rattle.mm_verdict.specs.Reply.{IsAskReply, line_with}
+
+-- the text begins with these lines, which the text of the facts follows
+abbrev pub IsExplained : (lines : List ℕ) → List Detail → (text : List ℕ) → Type 0
+IsExplained lines details text = text ≡ lines ++ details_text details
+
+-- The text in a file, or what is known of it where it is incomplete, is at fault as a proof of the
+-- `$p`: the line of the first fault, and what explains it: the first line, with the place in that
+-- file, and the facts.
+pub record IsTriedFault (proof : PlainFile) (before : List Sentence) (s : Sentence)
+    (text : List ℕ) (status : ℕ) : Type 0 where
+  pub rule : ProofRule
+  pub step : ℕ
+  pub fault : IsTokensFault Lenient before s (tokens_in proof.bytes) rule step
+  pub line : List ℕ
+  pub told : IsAskReply (ask.Text (rules.Proof rule) step) [] line status
+  pub at : ℕ
+  pub place : IsTextPlace Lenient before s proof.bytes rule step at
+  pub details : List Detail
+  pub explained : AreDetails Lenient before s (tokens_in proof.bytes) rule step details
+  pub said : IsExplained
+      (line ++ head_at (proof ∷ []) 0 at (rules.Proof rule) None step) details text
+
+-- They are incomplete, and their known prefix breaks no rule: the line of that, and what the prefix
+-- leaves on the stack.
+pub record IsTriedPrefix (before : List Sentence) (s : Sentence) (tokens : List (List ℕ))
+    (text : List ℕ) (status : ℕ) : Type 0 where
+  pub incomplete : is_incomplete tokens ≡ true
+  pub allowed : IsPrefixAllowedUnder Lenient before s tokens
+  pub line : List ℕ
+  pub told : IsAskReply (ask.Text (rules.Ask A3) 0) [] line status
+  pub details : List Detail
+  pub left : AreLeftOver Lenient before s tokens details
+  pub said : IsExplained line details text
+
+-- the reply what the tokens of the text in a file are as a proof of the `$p`
+abbrev pub IsTokensReply : (proof : PlainFile) → (before : List Sentence) → Sentence → List ℕ → ℕ
+    → Type 0
+IsTokensReply proof before s text status =
+    ((is_incomplete (tokens_in proof.bytes) ≡ false)
+    × IsProvedUnder Lenient before s (tokens_in proof.bytes)
+    × (text ≡ line_with (codes "proof") []) × (status ≡ 0))
+    ⊎ (IsTriedPrefix before s (tokens_in proof.bytes) text status
+    ⊎ IsTriedFault proof before s text status)
+
+-- the reply whether the text in a file is a proof of the `$p`
+abbrev pub IsTryReply : (proof : PlainFile) → (before : List Sentence) → Sentence → List ℕ → ℕ
+    → Type 0
+IsTryReply proof before s text status =
+    ((rule : Rule) × BreaksTokens rule proof.bytes × IsAskReply (ask.Text rule 0) [] text status)
+    ⊎ (HasProofTokens proof.bytes × IsTokensReply proof before s text status)

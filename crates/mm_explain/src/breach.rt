@@ -1,0 +1,205 @@
+//! A statement that breaks a rule of meaning, read again with what stands before it.
+
+ghost use Rattle.std.specs.Prelude.{◌≡◌, ◌≢◌, ◌+◌, [], List, ℕ, map, true, IfOk, OnOk};
+ghost use Rattle.mm_text.specs.Files.{plain_file};
+ghost use Rattle.mm_text.specs.Remaining.{IsUnread};
+ghost use Rattle.mm_text.specs.Statement.{plain_statement, HasForm};
+ghost use Rattle.mm_text.specs.Token.{plain_token};
+ghost use Rattle.mm_frame.specs.Breaking.{BreaksAt};
+ghost use Rattle.mm_frame.specs.Sentence.{sentence_of};
+ghost use Rattle.mm_explain.specs.MeaningFacts.{token_at};
+ghost use Rattle.mm_explain.specs.Mirror.Breaches.{AreMeantBefore, IsBreach, IsBroken};
+ghost use Rattle.mm_explain.specs.Mirror.Breaches.{IsMeantNext, Site};
+ghost use Rattle.mm_verdict.specs.Mirror.Judged.{IsRead, TakesNext};
+ghost use Rattle.mm_rules.specs.Verdict.{CanBeRead, sentences};
+
+use crate::read_to::take;
+use mm_frame::MeaningRule;
+use mm_rules::{Progress, Stop};
+use mm_text::{File, Seed, Statement, Statements, TextFault, Token};
+use mm_verdict::{beginning, make_room};
+use std::alloc::{AllocError, Global};
+
+/// A statement that breaks a rule of meaning.
+#[derive(Drop)]
+pub(crate) struct Breach<'a> {
+    pub rule: MeaningRule,
+    /// How many statements stand before it.
+    pub before: usize,
+    pub statement: Statement<'a>,
+    /// The symbol that breaks the rule; `None` where no symbol does.
+    pub index: Option<usize>,
+}
+
+impl<'a> Breach<'a> {
+    /// The token at fault.
+    pub fn token(&self) -> Token<'a>
+        ensures { plain_token result
+            ≡ token_at (plain_statement self.now.statement) self.now.index }
+    {
+        match self.index {
+            None => self.statement.first,
+            Some(index) => match self.statement.symbols.get(index) {
+                Some(symbol) => *symbol,
+                None => self.statement.first,
+            },
+        }
+    }
+}
+
+/// A reader of files that can be read.
+pub(crate) fn reader<'a>(
+    alloc: Global,
+    seed: Seed,
+    files: &'a [File<'a>],
+) -> Result<Statements<'a>, AllocError>
+    requires { CanBeRead (map plain_file files.now) }
+    ensures { IfOk result (IsUnread (map plain_file files.now)) }
+{
+    match Statements::new(alloc, seed, files) {
+        Ok(statements) => Ok(statements),
+        Err(TextFault::Memory) => Err(AllocError),
+        // The files break no rule as a whole, and no token was read.
+        Err(TextFault::Load(_) | TextFault::Fault { .. }) => unreachable!(),
+    }
+}
+
+/// Reads the next statement, which is there.
+pub(crate) fn read_next<'a>(
+    statements: &mut Statements<'a>,
+    into: &mut Statement<'a>,
+) -> Result<(), AllocError>
+    requires { statements.old.statements ≢ [] }
+    ensures taken { OnOk result
+        (TakesNext statements.old true (plain_statement into.new) statements.new) }
+    ensures formed { OnOk result (HasForm (plain_statement into.new)) }
+{
+    match statements.read(into) {
+        Ok(true) => Ok(()),
+        Err(TextFault::Memory) => Err(AllocError),
+        // A statement is left, so that neither the end comes next nor a fault of the text.
+        Ok(false) | Err(TextFault::Load(_) | TextFault::Fault { .. }) => unreachable!(),
+    }
+}
+
+/// Reads the next statement, which breaks no rule of meaning, and takes it into the progress.
+fn take_next<'a>(
+    files: &[File<'a>],
+    statements: &mut Statements<'a>,
+    progress: &mut Progress<'a>,
+    into: &mut Statement<'a>,
+) -> Result<(), AllocError>
+    requires read { IsRead (map plain_file files.now) progress.old statements.old }
+    requires next { IsMeantNext progress.old.prover.book.statements statements.old }
+    ensures read { OnOk result (IsRead (map plain_file files.now) progress.new statements.new) }
+    ensures count { OnOk result (progress.new.count ≡ progress.old.count + 1) }
+{
+    read_next(statements, into)?;
+    make_room(files, progress);
+    match take(progress, into) {
+        Ok(_) => Ok(()),
+        Err(Stop::Memory) => Err(AllocError),
+        // It breaks no rule of meaning.
+        Err(Stop::Refused(_)) => unreachable!(),
+    }
+}
+
+/// Reads so many statements, which break no rule of meaning, and takes them into the progress.
+fn take_before<'a>(
+    files: &[File<'a>],
+    statements: &mut Statements<'a>,
+    progress: &mut Progress<'a>,
+    into: &mut Statement<'a>,
+    count: usize,
+) -> Result<(), AllocError>
+    requires read { IsRead (map plain_file files.now) progress.old statements.old }
+    requires none { progress.old.count ≡ 0 }
+    requires meant { AreMeantBefore (map plain_file files.now) count }
+    ensures read { OnOk result (IsRead (map plain_file files.now) progress.new statements.new) }
+    ensures count { OnOk result (progress.new.count ≡ count) }
+{
+    for _ in 0..count {
+        take_next(files, statements, progress, into)?;
+    }
+    Ok(())
+}
+
+/// Takes the statements before the one that breaks the rule, which so many are, and reads that one:
+/// the symbol that breaks it.
+fn breaking_after<'a>(
+    files: &[File<'a>],
+    statements: &mut Statements<'a>,
+    progress: &mut Progress<'a>,
+    into: &mut Statement<'a>,
+    count: usize,
+    rule: MeaningRule,
+) -> Result<Option<usize>, AllocError>
+    requires read { IsRead (map plain_file files.now) progress.old statements.old }
+    requires none { progress.old.count ≡ 0 }
+    requires broken { IsBroken (map plain_file files.now) count rule }
+    ensures { IfOk result (λ index. (site : Site (map plain_file files.now) count)
+        → (plain_statement into.new ≡ site.s)
+        × BreaksAt rule (sentences site.before) (sentence_of site.s) index) }
+{
+    take_before(files, statements, progress, into, count)?;
+    read_next(statements, into)?;
+    progress.prover.book().breaking_symbol(into, rule)
+}
+
+/// Reads up to the statement that breaks the rule, which so many stand before: the symbol that
+/// breaks it.
+fn find_breaking<'a>(
+    alloc: Global,
+    seed: Seed,
+    files: &'a [File<'a>],
+    statements: &mut Statements<'a>,
+    into: &mut Statement<'a>,
+    count: usize,
+    rule: MeaningRule,
+) -> Result<Option<usize>, AllocError>
+    requires unread { IsUnread (map plain_file files.now) statements.old }
+    requires readable { CanBeRead (map plain_file files.now) }
+    requires broken { IsBroken (map plain_file files.now) count rule }
+    ensures { IfOk result (λ index. (site : Site (map plain_file files.now) count)
+        → (plain_statement into.new ≡ site.s)
+        × BreaksAt rule (sentences site.before) (sentence_of site.s) index) }
+{
+    let mut progress: Progress<'a> = beginning(alloc, seed, files)?;
+    let index = breaking_after(files, statements, &mut progress, into, count, rule);
+    drop(progress);
+    index
+}
+
+/// The breach of the rule by the statement that so many stand before. What stands before it is
+/// read and taken again, and no proof is judged.
+pub(crate) fn read_breach<'a>(
+    alloc: Global,
+    seed: Seed,
+    files: &'a [File<'a>],
+    before: usize,
+    rule: MeaningRule,
+) -> Result<Breach<'a>, AllocError>
+    requires readable { CanBeRead (map plain_file files.now) }
+    requires broken { IsBroken (map plain_file files.now) before rule }
+    ensures breach { IfOk result (IsBreach (map plain_file files.now)) }
+    ensures rule { IfOk result (λ breach. breach.rule ≡ rule) }
+    ensures before { IfOk result (λ breach. breach.before ≡ before) }
+{
+    let mut statements = reader(alloc, seed, files)?;
+    let mut statement = Statement::empty(alloc);
+    let index = find_breaking(
+        alloc,
+        seed,
+        files,
+        &mut statements,
+        &mut statement,
+        before,
+        rule,
+    )?;
+    Ok(Breach {
+        rule,
+        before,
+        statement,
+        index,
+    })
+}

@@ -1,0 +1,105 @@
+//! Where the hypotheses stand that help to mend a proof at fault.
+
+ghost use Rattle.std.specs.Prelude.{◌≡◌, ◌++◌, ℕ, List, map, OnOk};
+ghost use Rattle.mm_text.specs.Files.{plain_file};
+ghost use Rattle.mm_step.specs.declared.profile.Profile.{Profile};
+ghost use Rattle.mm_facts.specs.Explained.{Detail, details_text};
+ghost use Rattle.mm_explain.specs.HypothesisPlaces.{AreHypothesisPlaces, AreStopPlaces};
+ghost use Rattle.mm_explain.specs.HypothesisPlaces.{AreTokenPlaces, tells_own as tells_own_of};
+ghost use Rattle.mm_explain.specs.Mirror.Breaches.{Site};
+ghost use Rattle.mm_facts.specs.Mirror.Explaining.{IsCauseOf};
+ghost use Rattle.mm_explain.specs.Mirror.Standing.{IsPlaced};
+ghost use Rattle.mm_rules.specs.Verdict.{CanBeRead, proof_of};
+
+use crate::own_hypotheses::push_own_hypotheses;
+use crate::scope::push_scope;
+use mm_facts::Cause;
+use mm_frame::{Book, LabelId};
+use mm_step::ProofRule;
+use mm_text::{File, Seed};
+use std::alloc::{AllocError, Global};
+
+/// Whether the theorem's own hypotheses are told where the rule is broken.
+fn tells_own(rule: ProofRule) -> bool
+    ensures { result ≡ tells_own_of rule }
+{
+    matches!(
+        rule,
+        ProofRule::P8 | ProofRule::P9 | ProofRule::P10 | ProofRule::P13 | ProofRule::P14
+    )
+}
+
+/// The places that are told of a token at which a rule over the whole of a proof is broken, where
+/// so many statements stand before the `$p`.
+fn push_at_token<'a>(
+    out: &mut Vec<u8>,
+    alloc: Global,
+    seed: Seed,
+    files: &'a [File<'a>],
+    count: usize,
+    rule: ProofRule,
+    text: &[u8],
+) -> Result<(), AllocError>
+    requires readable { CanBeRead (map plain_file files.now) }
+    requires site { Site (map plain_file files.now) count }
+    ensures { OnOk result ((site : Site (map plain_file files.now) count)
+        → (details : List Detail)
+        × AreTokenPlaces (map plain_file files.now) site.before rule text.now details
+        × (out.new.items ≡ out.old.items ++ details_text details)) }
+{
+    match rule {
+        ProofRule::P3 => push_scope(out, alloc, seed, files, count, text),
+        _ => Ok(()),
+    }
+}
+
+/// The places that are told where moves stop by the rule.
+fn push_at_stop<'a>(
+    out: &mut Vec<u8>,
+    alloc: Global,
+    files: &'a [File<'a>],
+    book: &Book,
+    place: (LabelId, usize),
+    rule: ProofRule,
+) -> Result<(), AllocError>
+    requires { IsPlaced (map plain_file files.now) book.now.statements place.0.0 place.1 }
+    ensures { OnOk result
+        ((p : IsPlaced (map plain_file files.now) book.now.statements place.0.0 place.1)
+        → (details : List Detail)
+        × AreStopPlaces (map plain_file files.now) p.site.before p.site.s rule details
+        × (out.new.items ≡ out.old.items ++ details_text details)) }
+{
+    if tells_own(rule) {
+        push_own_hypotheses(out, alloc, files, book, place)
+    } else {
+        Ok(())
+    }
+}
+
+/// The places of hypotheses that are told of a fault by the rule, whose cause this is. The files
+/// are read again up to the `$p` with the number, before which so many statements stand.
+pub(crate) fn push_hypothesis_places<'a>(
+    out: &mut Vec<u8>,
+    alloc: Global,
+    files: &'a [File<'a>],
+    book: &Book,
+    place: (LabelId, usize),
+    cause: &Cause,
+    rule: ProofRule,
+) -> Result<(), AllocError>
+    requires { IsPlaced (map plain_file files.now) book.now.statements place.0.0 place.1 }
+    ensures { OnOk result
+        ((p : IsPlaced (map plain_file files.now) book.now.statements place.0.0 place.1)
+        (profile : Profile) (step : ℕ)
+        → IsCauseOf profile book.now.statements place.0.0 (proof_of p.site.s) rule step cause.now
+        → (details : List Detail)
+        × AreHypothesisPlaces (map plain_file files.now) p.site.before p.site.s rule step details
+        × (out.new.items ≡ out.old.items ++ details_text details)) }
+{
+    match cause {
+        Cause::Token { text, .. } => {
+            push_at_token(out, alloc, book.seed(), files, place.1, rule, text)
+        }
+        Cause::Moves { .. } => push_at_stop(out, alloc, files, book, place, rule),
+    }
+}

@@ -1,0 +1,505 @@
+//! All faults of a database in one run, each with what explains it.
+
+ghost use Rattle.std.specs.Prelude.{◌≡◌, ◌<◌, ◌-◌, ◌++◌, List, ℕ, [], ◌∷◌, map, length, true};
+ghost use Rattle.std.specs.Prelude.{OnOk, IfOk, IfErr, Option, Some, drop, take, option_map};
+ghost use Rattle.mm_text.specs.declared.statement.Kind.TheVariants.{Provable};
+ghost use Rattle.mm_text.specs.Statement.{PlainStatement, plain_statement, HasForm};
+ghost use Rattle.mm_text.specs.Reading.{PlainFault, Reads};
+ghost use Rattle.mm_text.specs.Token.{plain_token};
+ghost use Rattle.mm_text.specs.Files.{plain_file};
+ghost use Rattle.mm_frame.specs.Sentence.{Sentence, sentence_of};
+ghost use Rattle.mm_step.specs.declared.profile.Profile.{Profile};
+ghost use Rattle.mm_step.specs.Steps.{IsProofNumber};
+ghost use Rattle.mm_rules.specs.Verdict.{CanBeRead, HasVerdict};
+ghost use Rattle.mm_rules.specs.Answer.{plain_refusal, verdict_of_conclusion};
+ghost use Rattle.mm_rules.specs.Status.{number_of};
+ghost use Rattle.mm_explain.specs.Why.{owner_words as owner_words_of, owner_text, step_text};
+ghost use Rattle.mm_explain.specs.Why.{head_at, head_text, IsExplanation, IsLastExplanation};
+ghost use Rattle.mm_verdict.specs.Why.{is_of_proofs};
+ghost use Rattle.mm_explain.specs.Why.{most_explained, more_text, count_text};
+ghost use Rattle.mm_verdict.specs.Reply.{refusal_status};
+ghost use Rattle.mm_facts.specs.Explained.{details_text};
+ghost use Rattle.mm_explain.specs.Later.{IsUnknownIn, stated_later};
+ghost use Rattle.mm_facts.specs.Mirror.Explaining.{IsCauseOf};
+ghost use Rattle.mm_explain.specs.Mirror.Last.{EndsRun};
+ghost use Rattle.mm_explain.specs.Mirror.Reasons.{AreKeptLabels, AreLabelsIn, IsExplainedBut};
+ghost use Rattle.mm_explain.specs.Mirror.Reasons.{IsRefusedLast, Notes, TellsWhy};
+ghost use Rattle.mm_rules.specs.declared.fault.Refusal.{Refusal};
+ghost use Rattle.mm_explain.specs.declared.why.Unaccepted.TheVariants.{Memory};
+ghost use Rattle.mm_rules.specs.declared.rule.Rule.TheVariants.{Proof};
+
+use crate::hypothesis_places::push_hypothesis_places;
+use crate::last::last_facts;
+use crate::later::{push_later, read_labels};
+use mm_facts::{Cause, cause_of, fault_place, push_cause};
+use mm_frame::{Book, Found, LabelId};
+use mm_rules::{
+    CheckFault, Judged, Refusal, Rule, Status, Stop, Visitor, meaning, place_of, push_decimal,
+    push_place,
+};
+use mm_step::{Profile, ProofRule};
+use mm_text::{File, Seed, Statement, Token};
+use mm_verdict::{Checked, conclude, first_status, judge_files, proof_of};
+use std::alloc::{AllocError, Global};
+
+/// How many faults of proofs are explained.
+const MOST_EXPLAINED: usize = 10;
+
+/// Why a database isn't accepted.
+#[derive(Drop)]
+pub enum Unaccepted {
+    /// The handed files break F1, F2 or F3 as a whole.
+    Load(Rule),
+    /// Statements are at fault: what tells all faults, and the status of the first.
+    Refused { text: Vec<u8>, status: Status },
+    /// A growth was refused.
+    Memory,
+}
+
+impl From<AllocError> for Unaccepted {
+    ghost from_gives = { λ _ e. e ≡ Memory };
+
+    fn from(_e: AllocError) -> Unaccepted {
+        Unaccepted::Memory
+    }
+}
+
+/// In what a fault is: in a proof, or in another part of a statement.
+fn owner_words(rule: Rule) -> &'static [u8]
+    ensures { result.now ≡ owner_words_of rule }
+{
+    match rule {
+        Rule::Proof(_) => b", in the proof of ",
+        _ => b", in ",
+    }
+}
+
+/// Puts at the end in what a fault is, with the statement's label; nothing where there is none.
+fn push_owner(out: &mut Vec<u8>, rule: Rule, label: Option<&[u8]>) -> Result<(), AllocError>
+    ensures { OnOk result (out.new.items ≡ out.old.items
+        ++ owner_text rule (option_map (λ l. l.now) label.entry)) }
+{
+    match label {
+        Some(label) => {
+            out.extend_from_slice(owner_words(rule))?;
+            out.extend_from_slice(label)
+        }
+        None => Ok(()),
+    }
+}
+
+/// Puts the step of a fault at the end; nothing where it is at none.
+fn push_step(out: &mut Vec<u8>, step: usize) -> Result<(), AllocError>
+    ensures { OnOk result (out.new.items ≡ out.old.items ++ step_text step) }
+{
+    if step == 0 {
+        return Ok(());
+    }
+    out.extend_from_slice(b", at step ")?;
+    push_decimal(out, step)
+}
+
+/// Puts the first line of an explanation at the end, with the place of a position in a file, and
+/// with the rule and the step of the fault.
+#[tactic(auto, using(crate::proofs::Explanations::eight_parts))]
+pub(crate) fn push_head_at(
+    out: &mut Vec<u8>,
+    files: &[File],
+    position: (usize, usize),
+    fault: (Rule, usize),
+    label: Option<&[u8]>,
+) -> Result<(), AllocError>
+    ensures { OnOk result (out.new.items ≡ out.old.items
+        ++ head_at (map plain_file files.now) position.0 position.1 fault.0
+        (option_map (λ l. l.now) label.entry) fault.1) }
+{
+    push_place(out, files, place_of(files, position.0, position.1))?;
+    out.extend_from_slice(b": ")?;
+    out.extend_from_slice(fault.0.code())?;
+    out.extend_from_slice(b": ")?;
+    out.extend_from_slice(meaning(fault.0))?;
+    push_owner(out, fault.0, label)?;
+    push_step(out, fault.1)?;
+    out.push(b'\n')?;
+    Ok(())
+}
+
+/// Puts that of a refusal at the end, with the place of a position in its file.
+pub fn push_head(
+    out: &mut Vec<u8>,
+    files: &[File],
+    at: usize,
+    refusal: &Refusal,
+) -> Result<(), AllocError>
+    ensures { OnOk result (out.new.items ≡ out.old.items
+        ++ head_text (map plain_file files.now) at (plain_refusal refusal.now)) }
+{
+    let position = (refusal.file, at);
+    let fault = (refusal.rule, refusal.step);
+    push_head_at(out, files, position, fault, refusal.label)
+}
+
+/// Puts at the end how many faults of proofs aren't explained, if there are such.
+#[tactic(auto, using(mm_facts::proofs::DetailTexts::three_parts))]
+fn push_more(out: &mut Vec<u8>, count: usize) -> Result<(), AllocError>
+    ensures { OnOk result (out.new.items ≡ out.old.items ++ more_text count) }
+{
+    if count == 0 {
+        return Ok(());
+    }
+    out.extend_from_slice(b"and ")?;
+    push_decimal(out, count)?;
+    out.extend_from_slice(b" more, which mm faults lists\n")?;
+    Ok(())
+}
+
+/// Puts at the end how many faults there are.
+fn push_count(out: &mut Vec<u8>, count: usize) -> Result<(), AllocError>
+    ensures { OnOk result (out.new.items ≡ out.old.items ++ count_text count) }
+{
+    if count == 1 {
+        return out.extend_from_slice(b"1 fault\n");
+    }
+    push_decimal(out, count)?;
+    out.extend_from_slice(b" faults\n")
+}
+
+/// The number of the `$p` that a book took last.
+fn last_number(book: &Book, statement: &Statement) -> LabelId
+    requires formed { HasForm (plain_statement statement.now) }
+    requires provable { statement.now.kind ≡ Provable }
+    requires last { (before : List Sentence)
+        × (book.now.statements ≡ before ++ sentence_of (plain_statement statement.now) ∷ []) }
+    ensures { (before : List Sentence)
+        → book.now.statements ≡ before ++ sentence_of (plain_statement statement.now) ∷ []
+        → IsProofNumber book.now.statements result.0 (length before)
+        (sentence_of (plain_statement statement.now)) }
+{
+    match &statement.label {
+        Some(label) => match book.find(label.text) {
+            Found::Assertion(id) => id,
+            // No other statement has its label.
+            Found::None | Found::Hypothesis { .. } => unreachable!(),
+        },
+        // Each `$p` has a label.
+        None => unreachable!(),
+    }
+}
+
+/// The rule and the step of a proof's refusal.
+fn fault_in(refusal: &Refusal) -> (ProofRule, usize)
+    requires { is_of_proofs refusal.now.rule ≡ true }
+    ensures rule { Proof result.0 ≡ refusal.now.rule }
+    ensures step { result.1 ≡ refusal.now.step }
+{
+    match refusal.rule {
+        Rule::Proof(rule) => (rule, refusal.step),
+        _ => unreachable!(),
+    }
+}
+
+/// The label at which a proof breaks P2, by the cause of its fault; none where that is by another
+/// rule.
+fn unknown_label<'t>(cause: &Cause<'t>, rule: ProofRule) -> Option<&'t [u8]>
+    requires { (profile : Profile) × (statements : List Sentence) × (id : ℕ) × (index : ℕ)
+        × (s : Sentence) × (tokens : List (List ℕ)) × (step : ℕ)
+        × IsProofNumber statements id index s
+        × IsCauseOf profile statements id tokens rule step cause.now }
+    ensures { (profile : Profile) (statements : List Sentence) (id : ℕ) (index : ℕ)
+        (s : Sentence) (tokens : List (List ℕ)) (step : ℕ)
+        → IsProofNumber statements id index s
+        → IsCauseOf profile statements id tokens rule step cause.now
+        → IsUnknownIn (take index statements) tokens rule (option_map (λ l. l.now) result) }
+{
+    match rule {
+        ProofRule::P2 => match cause {
+            Cause::Token { text, .. } => Some(*text),
+            // P2 is broken over the whole of a proof.
+            Cause::Moves { .. } => unreachable!(),
+        },
+        _ => None,
+    }
+}
+
+/// Explains the refusal of the `$p` that the book took last, for the fault of its proof, but for
+/// where a label that no earlier statement has is stated further down: that label is answered.
+fn push_explanation<'a>(
+    out: &mut Vec<u8>,
+    alloc: Global,
+    profile: Profile,
+    files: &[File],
+    book: &Book,
+    statement: &Statement<'a>,
+    refusal: &Refusal,
+) -> Result<Option<&'a [u8]>, AllocError>
+    requires formed { HasForm (plain_statement statement.now) }
+    requires refused { IsRefusedLast profile (map plain_file files.now) book.now.statements
+        (plain_statement statement.now) (plain_refusal refusal.now) }
+    ensures { IfOk result (λ label. (text : List ℕ)
+        × IsExplainedBut profile (map plain_file files.now) book.now.statements
+        (plain_statement statement.now) (plain_refusal refusal.now)
+        (option_map (λ l. l.now) label) text
+        × (out.new.items ≡ out.old.items ++ text)) }
+{
+    let fault = fault_in(refusal);
+    let id = last_number(book, statement);
+    let tokens = proof_of(alloc, statement)?;
+    let cause = cause_of(alloc, profile, book, id, &tokens, fault)?;
+    push_head(out, files, fault_place(statement, &tokens, &cause), refusal)?;
+    push_cause(out, alloc, profile, book, id, &cause, fault.0)?;
+    let place = (id, refusal.statement - 1);
+    push_hypothesis_places(out, alloc, files, book, place, &cause, fault.0)?;
+    Ok(unknown_label(&cause, fault.0))
+}
+
+/// Explains the refusal for the fault that ended the run.
+fn push_last<'a>(
+    out: &mut Vec<u8>,
+    alloc: Global,
+    seed: Seed,
+    files: &'a [File<'a>],
+    refusal: &Refusal<'a>,
+) -> Result<(), AllocError>
+    requires { EndsRun (map plain_file files.now) (plain_refusal refusal.now) }
+    ensures { OnOk result ((text : List ℕ)
+        × IsLastExplanation (map plain_file files.now) (plain_refusal refusal.now) text
+        × (out.new.items ≡ out.old.items ++ text)) }
+{
+    let (at, facts) = last_facts(alloc, seed, files, refusal)?;
+    push_head(out, files, at, refusal)?;
+    out.extend_from_slice(&facts)
+}
+
+/// A visitor that keeps the refusals of all proofs that are at fault, and explains the first of
+/// them.
+#[derive(Drop)]
+struct Reasons<'a> {
+    alloc: Global,
+    seed: Seed,
+    profile: Profile,
+    files: &'a [File<'a>],
+    refusals: Vec<Refusal<'a>>,
+    /// The explanations.
+    text: Vec<u8>,
+    /// The labels of all statements of the files, once they were asked for.
+    labels: Vec<Option<Token<'a>>>,
+}
+
+impl<'a> Reasons<'a> {
+    /// Keeps one more refusal.
+    fn keep(&mut self, refusal: Refusal<'a>) -> Result<(), AllocError>
+        ensures kept { OnOk result (self.new.refusals.items
+            ≡ self.old.refusals.items ++ refusal.entry ∷ []) }
+        ensures text { self.new.text ≡ self.old.text }
+        ensures profile { self.new.profile ≡ self.old.profile }
+        ensures files { self.new.files ≡ self.old.files }
+        ensures labels { self.new.labels ≡ self.old.labels }
+    {
+        self.refusals.push(refusal)?;
+        Ok(())
+    }
+
+    /// Reads the labels of all statements, unless they were read.
+    fn read_labels(&mut self) -> Result<(), AllocError>
+        requires readable { CanBeRead (map plain_file self.old.files.now) }
+        requires labels { AreKeptLabels (map plain_file self.old.files.now)
+            self.old.labels.items }
+        ensures labels { OnOk result (AreLabelsIn (map plain_file self.old.files.now)
+            (map (option_map plain_token) self.new.labels.items)) }
+        ensures kept { self.new.refusals ≡ self.old.refusals }
+        ensures text { self.new.text ≡ self.old.text }
+        ensures profile { self.new.profile ≡ self.old.profile }
+        ensures files { self.new.files ≡ self.old.files }
+    {
+        if self.labels.is_empty() {
+            self.labels = read_labels(self.alloc, self.seed, self.files)?;
+        }
+        Ok(())
+    }
+
+    /// Tells where a label is stated further down than the statement with a number, from 1 on.
+    fn tell_later(&mut self, label: &[u8], number: usize) -> Result<(), AllocError>
+        requires readable { CanBeRead (map plain_file self.old.files.now) }
+        requires labels { AreKeptLabels (map plain_file self.old.files.now)
+            self.old.labels.items }
+        ensures told { OnOk result ((statements : List PlainStatement)
+            (ending : Option PlainFault)
+            → Reads (map plain_file self.old.files.now) statements ending
+            → self.new.text.items ≡ self.old.text.items
+            ++ details_text (stated_later (map plain_file self.old.files.now) (Some label.now)
+            (drop number statements))) }
+        ensures labels { OnOk result (AreKeptLabels (map plain_file self.old.files.now)
+            self.new.labels.items) }
+        ensures kept { self.new.refusals ≡ self.old.refusals }
+        ensures profile { self.new.profile ≡ self.old.profile }
+        ensures files { self.new.files ≡ self.old.files }
+    {
+        self.read_labels()?;
+        push_later(&mut self.text, self.files, &self.labels, number, label)
+    }
+
+    /// Explains the refusal of the `$p` that the book took last.
+    fn explain(
+        &mut self,
+        book: &Book<'a>,
+        statement: &Statement<'a>,
+        refusal: &Refusal<'a>,
+    ) -> Result<(), AllocError>
+        requires formed { HasForm (plain_statement statement.now) }
+        requires refused { IsRefusedLast self.old.profile (map plain_file self.old.files.now)
+            book.now.statements (plain_statement statement.now) (plain_refusal refusal.now) }
+        requires labels { AreKeptLabels (map plain_file self.old.files.now)
+            self.old.labels.items }
+        ensures explained { OnOk result ((text : List ℕ)
+            × IsExplanation self.old.profile (map plain_file self.old.files.now)
+            (plain_refusal refusal.now) text
+            × (self.new.text.items ≡ self.old.text.items ++ text)) }
+        ensures labels { OnOk result (AreKeptLabels (map plain_file self.old.files.now)
+            self.new.labels.items) }
+        ensures kept { self.new.refusals ≡ self.old.refusals }
+        ensures profile { self.new.profile ≡ self.old.profile }
+        ensures files { self.new.files ≡ self.old.files }
+    {
+        let text = &mut self.text;
+        let unknown = push_explanation(
+            text,
+            self.alloc,
+            self.profile,
+            self.files,
+            book,
+            statement,
+            refusal,
+        )?;
+        match unknown {
+            Some(label) => self.tell_later(label, refusal.statement),
+            None => Ok(()),
+        }
+    }
+
+    /// Keeps the refusal of the `$p` that the book took last, and explains it unless enough are.
+    fn note(
+        &mut self,
+        book: &Book<'a>,
+        statement: &Statement<'a>,
+        refusal: Refusal<'a>,
+    ) -> Result<(), AllocError>
+        requires formed { HasForm (plain_statement statement.now) }
+        requires refused { IsRefusedLast self.old.profile (map plain_file self.old.files.now)
+            book.now.statements (plain_statement statement.now) (plain_refusal refusal) }
+        requires labels { AreKeptLabels (map plain_file self.old.files.now)
+            self.old.labels.items }
+        ensures { OnOk result (Notes self.old refusal.entry self.new) }
+    {
+        if self.refusals.len() >= MOST_EXPLAINED {
+            return self.keep(refusal);
+        }
+        self.explain(book, statement, &refusal)?;
+        self.keep(refusal)
+    }
+
+    /// Tells how many faults of proofs aren't explained.
+    fn tell_more(&mut self) -> Result<(), AllocError>
+        ensures text { OnOk result (self.new.text.items ≡ self.old.text.items
+            ++ more_text (length self.old.refusals.items - most_explained)) }
+        ensures kept { self.new.refusals ≡ self.old.refusals }
+        ensures profile { self.new.profile ≡ self.old.profile }
+        ensures files { self.new.files ≡ self.old.files }
+    {
+        let more = self.refusals.len().saturating_sub(MOST_EXPLAINED);
+        push_more(&mut self.text, more)
+    }
+
+    /// Explains the fault that ended the run, and keeps it.
+    fn tell_last(&mut self, seed: Seed, last: Refusal<'a>) -> Result<(), AllocError>
+        requires { EndsRun (map plain_file self.old.files.now) (plain_refusal last) }
+        ensures explained { OnOk result ((text : List ℕ)
+            × IsLastExplanation (map plain_file self.old.files.now) (plain_refusal last.entry) text
+            × (self.new.text.items ≡ self.old.text.items ++ text)) }
+        ensures kept { OnOk result (self.new.refusals.items
+            ≡ self.old.refusals.items ++ last.entry ∷ []) }
+    {
+        push_last(&mut self.text, self.alloc, seed, self.files, &last)?;
+        self.keep(last)
+    }
+
+    /// Counts all faults, of which there is one: the whole text, and the status of the first.
+    fn finish(self) -> Result<(Vec<u8>, Status), AllocError>
+        requires { 0 < length self.refusals.items }
+        ensures text { IfOk result (λ told. told.0.items ≡ self.entry.text.items
+            ++ count_text (length self.entry.refusals.items)) }
+        ensures status { IfOk result (λ told. (first : Refusal) (others : List Refusal)
+            → self.entry.refusals.items ≡ first ∷ others
+            → number_of told.1 ≡ refusal_status first.rule) }
+    {
+        let mut text = self.text;
+        push_count(&mut text, self.refusals.len())?;
+        Ok((text, first_status(&self.refusals)))
+    }
+}
+
+impl<'a> Visitor<'a> for Reasons<'a> {
+    ghost use Rattle.mm_explain.specs.Mirror.Reasons.{HasExplained};
+
+    ghost has_seen = { HasExplained };
+
+    ghost may_stop = { ⊥ };
+
+    fn see(
+        &mut self,
+        book: &Book<'a>,
+        statement: &Statement<'a>,
+        judged: Judged<'a>,
+    ) -> Result<(), Stop<'a>> {
+        match judged {
+            Judged::Faulty(refusal) => Ok(self.note(book, statement, refusal)?),
+            _ => Ok(()),
+        }
+    }
+}
+
+/// Checks in a profile the database that the files hold, as `all_faults` does, and tells all faults
+/// in one run, each with what explains it.
+///
+/// # Errors
+///
+/// `Load` where the files can't be taken as a whole, else `Refused` with what tells all faults;
+/// `Memory` where a growth was refused, and nothing is said of the files then.
+pub fn explained<'a>(
+    alloc: Global,
+    seed: Seed,
+    profile: Profile,
+    files: &'a [File<'a>],
+) -> Result<Checked<'a>, Unaccepted>
+    ensures verdict { IfOk result (λ checked. HasVerdict profile (map plain_file files.now)
+        (verdict_of_conclusion checked)) }
+    ensures why { IfErr result (TellsWhy profile (map plain_file files.now)) }
+{
+    let mut reasons = Reasons {
+        alloc,
+        seed,
+        profile,
+        files,
+        refusals: Vec::new(alloc),
+        text: Vec::new(alloc),
+        labels: Vec::new(alloc),
+    };
+    match judge_files(alloc, seed, profile, files, &mut reasons) {
+        Ok(progress) => {
+            if reasons.refusals.is_empty() {
+                return Ok(conclude(profile, files, progress));
+            }
+            drop(progress);
+            reasons.tell_more()?;
+            let (text, status) = reasons.finish()?;
+            Err(Unaccepted::Refused { text, status })
+        }
+        Err(CheckFault::Refused(last)) => {
+            reasons.tell_more()?;
+            reasons.tell_last(seed, last)?;
+            let (text, status) = reasons.finish()?;
+            Err(Unaccepted::Refused { text, status })
+        }
+        Err(CheckFault::Load(rule)) => Err(Unaccepted::Load(rule)),
+        Err(CheckFault::Memory) => Err(Unaccepted::Memory),
+    }
+}

@@ -1,0 +1,9 @@
+pub mod DetailTexts
+pub mod HaltDetails
+pub mod TokenHalts
+pub mod AskedDetails
+pub mod LackingDetails
+pub mod ApartDetails
+pub mod PairsAsked
+pub mod FaultPlaces
+pub mod NearLabels

@@ -1,0 +1,363 @@
+-- What explains a fault of a proof: facts, and the text that tells them, which is this project's
+-- own.
+use Rattle.std.specs.Prelude.{◌≡◌, ℕ, suc, ◌+◌, List, [], ◌∷◌, ◌++◌, map, length, codes, decimal}
+use Rattle.std.specs.Prelude.{true, false, ◌⊎◌, if◌then◌else◌, nat_lt, Option, Some, None}
+use Rattle.std.specs.Prelude.{unwrap_or, option_map, slice_get, take}
+use Rattle.std.specs.List.{flat_map, AllZip}
+use Rattle.std.specs.Str.{bytes_eq}
+use Rattle.mm_frame.specs.Sentence.{Sentence, SomeSentence, IsLabelled}
+use Rattle.mm_step.specs.declared.fault.ProofRule.{ProofRule}
+use Rattle.mm_step.specs.declared.fault.ProofRule.TheVariants.{P2, P3, P4, P8, P9, P10}
+use Rattle.mm_step.specs.declared.fault.ProofRule.TheVariants.{P11, P12, P14, P15, L1}
+use Rattle.mm_step.specs.declared.profile.Profile.{Profile}
+use Rattle.mm_step.specs.Substitution.{Symbol, Expression, Substitution}
+use Rattle.mm_step.specs.Tree.{Names}
+use Rattle.mm_step.specs.Moves.{Move, name, again, mark, steps_in}
+use Rattle.mm_proof.specs.Tokens.{is_incomplete, SayMoves}
+use Rattle.mm_step.specs.Proof.{IsWithin, MeetsHypotheses}
+use Rattle.mm_proof.specs.KnownPrefix.{known_prefix}
+use Rattle.mm_step.specs.Profiles.{limit_of}
+use Rattle.mm_listing.specs.Halted.{Halts}
+use Rattle.mm_proof.specs.Asked.{AsksFor, AreShared, AreMissing}
+use Rattle.mm_distinct.specs.Lacking.{AreLacking}
+use Rattle.mm_places.specs.WholePlaces.{IsWholePlace}
+use Rattle.mm_proof.specs.UnderProfile.{IsFaultUnder, IsPrefixFaultUnder}
+use Rattle.mm_rules.specs.Shown.{symbols_text}
+use Rattle.mm_rules.specs.Explained.{AreMandatoryPairs}
+
+-- a fact about a fault
+pub data Detail : Type 0 where
+  -- the token at fault
+  token_at_fault : (text : List ℕ) → Detail
+  -- the label of an earlier statement, to which that token is near
+  near_label : (label : List ℕ) → Detail
+  -- the label of the step
+  step_label : (label : List ℕ) → Detail
+  -- the step repeats what the mark with a number, from 1 on, keeps, or a later one if its number is
+  -- above 4,294,967,295, and there are so many marks
+  mark_asked : (wanted there : ℕ) → Detail
+  -- the step takes so many entries, and so many are there
+  entry_counts : (needed there : ℕ) → Detail
+  -- what a hypothesis states
+  hypothesis_stated : (label : List ℕ) → (stated : Expression) → Detail
+  -- what the step with a number gives
+  entry_given : (number : ℕ) → (given : Expression) → Detail
+  -- what a hypothesis asks of the entry that the step with a number gives
+  hypothesis_asks :
+      (label : List ℕ) → (asked : Expression) → (number : ℕ) → (given : Expression) → Detail
+  -- two variables that must stay apart, and what replaces them
+  pair_asked : (x y : Symbol) → (e f : List Symbol) → Detail
+  -- the variables that both have
+  shared_by_both : (variables : List Symbol) → Detail
+  -- two variables of a `$d` that this step lacks
+  step_lacks : (x y : Symbol) → Detail
+  -- two variables of a `$d` that the whole proof lacks
+  missing_pair : (x y : Symbol) → Detail
+  -- what is to be proved, and what the step with a number gives
+  end_given : (expression : Expression) → (number : ℕ) → (given : Expression) → Detail
+  -- the most symbols that an expression may have
+  most_symbols : (symbols : ℕ) → Detail
+  -- the place where began what the fault stands in
+  begun_at : (place : List ℕ) → Detail
+  -- the place where the last block is closed
+  last_closed_at : (place : List ℕ) → Detail
+  -- the place where the block begins in which the statement stands
+  block_opened : (place : List ℕ) → Detail
+  -- the place where the symbol was declared
+  declared_at : (place : List ℕ) → Detail
+  -- the place where it stands before in the statement
+  repeated_at : (place : List ℕ) → Detail
+  -- the place where it is a label
+  labelled_at : (place : List ℕ) → Detail
+  -- the place of the `$f` that gave the variable its type code
+  typed_at : (place : List ℕ) → Detail
+  -- the place where the hypothesis is stated
+  stated_at : (place : List ℕ) → Detail
+  -- the place where the block ends in which it stands
+  block_ended_at : (place : List ℕ) → Detail
+  -- the hypotheses of the theorem itself follow
+  its_hypotheses : Detail
+  -- one of them: the place where it is stated, and its label
+  hypothesis_at : (place label : List ℕ) → Detail
+  -- the place of a later statement, whose label the token at fault is
+  stated_later_at : (place : List ℕ) → Detail
+
+-- ---- the fault
+
+-- The first fault of the tokens, as the proof of the `$p` in the profile: of all of them, if they
+-- are complete, else of what is known of them.
+abbrev pub IsTokensFault : Profile → (before : List Sentence) → Sentence → (tokens : List (List ℕ))
+    → ProofRule → (step : ℕ) → Type 0
+IsTokensFault profile before s tokens rule step =
+    ((is_incomplete tokens ≡ false) × IsFaultUnder profile before s tokens rule step)
+    ⊎ ((is_incomplete tokens ≡ true) × IsPrefixFaultUnder profile before s tokens rule step)
+
+-- the tokens that are judged: all of them, if they are complete, else those of the known prefix
+abbrev pub judged_tokens : List (List ℕ) → List (List ℕ)
+judged_tokens tokens = if is_incomplete tokens then known_prefix tokens else tokens
+
+-- The moves that the judged tokens say stop with this rule; with none, where they pass and nothing
+-- is at fault.
+pub record TokensHalt (profile : Profile) (before : List Sentence) (s : Sentence)
+    (tokens : List (List ℕ)) (rule : Option ProofRule) : Type 0 where
+  pub moves : List (Move (List ℕ))
+  pub said : SayMoves before s (judged_tokens tokens) moves
+  pub halts : Halts (IsWithin (limit_of profile)) before s (is_incomplete tokens) moves rule
+
+-- ---- facts
+
+-- what the hypotheses state, in order
+abbrev pub hypotheses_stated : List Sentence → List Detail
+hypotheses_stated hypotheses =
+    map (λ h. hypothesis_stated (unwrap_or h.label []) h.symbols) hypotheses
+
+-- what the entries of a stack are, the lowest first, each with the number of the step that made it
+abbrev pub entries_given : (makers : List ℕ) → (stack : List Expression) → List Detail
+entries_given (number ∷ makers) (entry ∷ stack) =
+    entry_given number entry ∷ entries_given makers stack
+entries_given makers stack = []
+
+-- What each mandatory hypothesis of the assertion with the label asks, in order, where the step by
+-- it is made on this stack, whose entries these steps made; and the entry, with its step.
+pub record AreAsked (before : List Sentence) (stack : List Expression) (makers : List ℕ)
+    (label : List ℕ) (details : List Detail) : Type 0 where
+  pub met : MeetsHypotheses before stack label
+  pub count : length details ≡ length met.hypotheses
+  pub each : (i : ℕ) (h : Sentence) (given : Expression) (number : ℕ)
+      → slice_get met.hypotheses i ≡ Some h → slice_get met.entries i ≡ Some given
+      → slice_get makers (length met.rest + i) ≡ Some number
+      → (asked : Expression) × AsksFor before stack label i asked
+      × (slice_get details i
+      ≡ Some (hypothesis_asks (unwrap_or h.label []) asked number given))
+
+-- these facts, where there is something that they are of
+abbrev pub told_of : {X : Type 0} → List X → List Detail → List Detail
+told_of [] details = []
+told_of (x ∷ xs) details = details
+
+-- The facts of a mandatory pair whose members these replace: for P11 they tell of the pair where
+-- both share variables, for P12 where a `$d` of their variables is missing, and of each that is.
+abbrev pub AreApartDetails : (before : List Sentence) → ProofRule → (x y : Symbol)
+    → (e f : Expression) → List Detail → Type 0
+AreApartDetails before P11 x y e f details =
+    (shared : List Symbol) × AreShared before e f shared
+    × (details ≡ told_of shared (pair_asked x y e f ∷ shared_by_both shared ∷ []))
+AreApartDetails before P12 x y e f details =
+    (missing : List (Symbol × Symbol)) × AreMissing before e f missing
+    × (details ≡ told_of missing (pair_asked x y e f ∷ map (λ p. step_lacks p.0 p.1) missing))
+AreApartDetails before rule x y e f details = details ≡ []
+
+-- those of the pair, under this substitution
+abbrev pub ArePairDetails : (before : List Sentence) → ProofRule → Substitution
+    → Symbol × Symbol → List Detail → Type 0
+ArePairDetails before rule σ pair details =
+    (e : Expression) × (f : Expression) × (σ pair.0 ≡ Some e) × (σ pair.1 ≡ Some f)
+    × AreApartDetails before rule pair.0 pair.1 e f details
+
+-- What the step by the label on this stack tells of each mandatory pair of its assertion, in some
+-- order.
+pub record ArePairsAsked (before : List Sentence) (rule : ProofRule) (stack : List Expression)
+    (label : List ℕ) (details : List Detail) : Type 0 where
+  pub met : MeetsHypotheses before stack label
+  pub pairs : List (Symbol × Symbol)
+  pub mandatory : AreMandatoryPairs (take met.index before) met.assertion pairs
+  pub told : List (List Detail)
+  pub each : AllZip (ArePairDetails before rule met.σ) pairs told
+  pub all : details ≡ flat_map (λ own. own) told
+
+-- The facts of the step by a label that breaks the rule on this stack, whose entries these steps
+-- made, behind that label.
+abbrev pub AreStepDetails : (limit : ℕ) → (before : List Sentence) → (stack : List Expression)
+    → (makers : List ℕ) → (label : List ℕ) → ProofRule → List Detail → Type 0
+AreStepDetails limit before stack makers label P8 details =
+    (index : ℕ) × (assertion : Sentence) × (hypotheses : List Sentence)
+    × Names before label index assertion hypotheses
+    × (details ≡ entry_counts (length hypotheses) (length stack)
+    ∷ (hypotheses_stated hypotheses ++ entries_given makers stack))
+AreStepDetails limit before stack makers label P9 details =
+    AreAsked before stack makers label details
+AreStepDetails limit before stack makers label P10 details =
+    AreAsked before stack makers label details
+AreStepDetails limit before stack makers label P11 details =
+    ArePairsAsked before P11 stack label details
+AreStepDetails limit before stack makers label P12 details =
+    ArePairsAsked before P12 stack label details
+AreStepDetails limit before stack makers label L1 details = details ≡ most_symbols limit ∷ []
+AreStepDetails limit before stack makers label rule details = details ≡ []
+
+-- the facts of the move that breaks the rule there, where so many trees are kept
+abbrev pub AreMoveDetails : (limit : ℕ) → (before : List Sentence) → (stack kept : List Expression)
+    → (makers : List ℕ) → Move (List ℕ) → ProofRule → List Detail → Type 0
+AreMoveDetails limit before stack kept makers (name label) rule details =
+    (others : List Detail) × AreStepDetails limit before stack makers label rule others
+    × (details ≡ step_label label ∷ others)
+AreMoveDetails limit before stack kept makers (again tag) rule details =
+    details ≡ mark_asked (tag + 1) (length kept) ∷ []
+AreMoveDetails limit before stack kept makers mark rule details = details ≡ []
+
+-- the facts of what all moves leave on the stack, where it breaks the rule
+abbrev pub AreEndDetails : Sentence → (stack : List Expression) → (makers : List ℕ) → ProofRule
+    → List Detail → Type 0
+AreEndDetails s stack makers P14 details =
+    (given : Expression) × (number : ℕ) × (stack ≡ given ∷ []) × (makers ≡ number ∷ [])
+    × (details ≡ end_given s.symbols number given ∷ [])
+AreEndDetails s stack makers rule details = details ≡ entries_given makers stack
+
+-- The facts of the place where moves stop by the rule: of the first move that is left, or of the
+-- end.
+abbrev pub AreHaltDetails : (limit : ℕ) → (before : List Sentence) → Sentence
+    → (stack kept : List Expression) → (makers : List ℕ) → (left : List (Move (List ℕ)))
+    → ProofRule → List Detail → Type 0
+AreHaltDetails limit before s stack kept makers [] rule details =
+    AreEndDetails s stack makers rule details
+AreHaltDetails limit before s stack kept makers (move ∷ more) rule details =
+    AreMoveDetails limit before stack kept makers move rule details
+
+-- the `$d` statements of these pairs, in order
+abbrev pub pairs_lacking : List (Symbol × Symbol) → List Detail
+pairs_lacking pairs = map (λ p. missing_pair p.0 p.1) pairs
+
+-- The facts of the moves as a whole, which stop by the rule: for P12 the `$d` statements that they
+-- lack, those behind the place where they stop too, up to the first that breaks another rule.
+abbrev pub AreWholeDetails : (limit : ℕ) → (before : List Sentence)
+    → (moves : List (Move (List ℕ))) → ProofRule → List Detail → Type 0
+AreWholeDetails limit before moves P12 details =
+    (pairs : List (Symbol × Symbol)) × AreLacking (IsWithin limit) before moves pairs
+    × (details ≡ pairs_lacking pairs)
+AreWholeDetails limit before moves rule details = details ≡ []
+
+-- These are no facts, or the label of an earlier statement.
+abbrev pub AreNearDetails : (before : List Sentence) → List Detail → Type 0
+AreNearDetails before details =
+    (details ≡ [])
+    ⊎ ((label : List ℕ) × SomeSentence before (IsLabelled label)
+    × (details ≡ near_label label ∷ []))
+
+-- The facts of a token at which the rule over the whole of a proof is broken. For P2 they may tell
+-- of a label that an earlier statement has.
+abbrev pub AreTokenDetails : (before : List Sentence) → ProofRule → (text : List ℕ) → List Detail
+    → Type 0
+AreTokenDetails before P2 text details =
+    (near : List Detail) × AreNearDetails before near × (details ≡ token_at_fault text ∷ near)
+AreTokenDetails before P3 text details = details ≡ token_at_fault text ∷ []
+AreTokenDetails before P4 text details = details ≡ token_at_fault text ∷ []
+AreTokenDetails before P15 text details = details ≡ token_at_fault text ∷ []
+AreTokenDetails before rule text details = details ≡ []
+
+-- The facts that explain this fault, in order: those of the token where a rule over the whole of
+-- the proof is broken; else those of the place where the moves stop, and then those of the whole.
+abbrev pub AreDetails : Profile → (before : List Sentence) → Sentence → (tokens : List (List ℕ))
+    → ProofRule → (step : ℕ) → List Detail → Type 0
+AreDetails profile before s tokens rule step details =
+    ((step ≡ 0) × (token : ℕ) × (byte : ℕ) × (text : List ℕ)
+    × IsWholePlace before s (judged_tokens tokens) rule token byte
+    × (slice_get tokens token ≡ Some text) × AreTokenDetails before rule text details)
+    ⊎ ((h : TokensHalt profile before s tokens (Some rule))
+    × (step ≡ steps_in h.halts.earlier + 1)
+    × (there : List Detail) × (whole : List Detail)
+    × AreHaltDetails (limit_of profile) before s h.halts.stack h.halts.kept h.halts.makers
+    h.halts.left rule there
+    × AreWholeDetails (limit_of profile) before h.moves rule whole
+    × (details ≡ there ++ whole))
+
+-- The facts that tell what the known prefix of an incomplete proof, which breaks no rule, leaves on
+-- the stack, and what is to be proved.
+abbrev pub AreLeftOver : Profile → (before : List Sentence) → Sentence → (tokens : List (List ℕ))
+    → List Detail → Type 0
+AreLeftOver profile before s tokens details =
+    (h : TokensHalt profile before s tokens None)
+    × (details ≡ entries_given h.halts.makers h.halts.stack
+    ++ hypothesis_stated (unwrap_or s.label []) s.symbols ∷ [])
+
+-- ---- text
+
+-- the line of symbols, indented by four
+abbrev pub expression_line : List Symbol → List ℕ
+expression_line symbols = codes "   " ++ symbols_text symbols ++ codes "\n"
+
+-- the index, from 0 on, of the first symbol at which two expressions differ; none where they are
+-- the same
+abbrev pub difference : Expression → Expression → Option ℕ
+difference [] [] = None
+difference (x ∷ e) (y ∷ f) = if bytes_eq x y then option_map suc (difference e f) else Some 0
+difference e f = Some 0
+
+-- the symbol at an index, from 0 on
+abbrev pub symbol_at : Expression → ℕ → List ℕ
+symbol_at expression index = unwrap_or (slice_get expression index) (codes "nothing")
+
+-- the line that tells where the given expression differs from the asked one
+abbrev pub difference_line : (asked given : Expression) → Option ℕ → List ℕ
+difference_line asked given None = []
+difference_line asked given (Some index) =
+    codes "  they differ at symbol " ++ decimal (index + 1) ++ codes ": " ++ symbol_at given index
+    ++ codes " for " ++ symbol_at asked index ++ codes "\n"
+
+-- the lines of what is asked, of what a step gives instead, and of the difference
+abbrev pub but_given_text : (asked : Expression) → (number : ℕ) → (given : Expression) → List ℕ
+but_given_text asked number given =
+    expression_line asked ++ codes "  but step " ++ decimal number ++ codes " gives\n"
+    ++ expression_line given ++ difference_line asked given (difference asked given)
+
+-- the lines of what a hypothesis asks, and of what is given
+abbrev pub asks_text : (label : List ℕ) → (asked : Expression) → (number : ℕ) → (given : Expression)
+    → Option ℕ → List ℕ
+asks_text label asked number given None =
+    codes "  " ++ label ++ codes " asks, and step " ++ decimal number ++ codes " gives\n"
+    ++ expression_line asked
+asks_text label asked number given (Some index) =
+    codes "  " ++ label ++ codes " asks\n" ++ but_given_text asked number given
+
+-- The number of a `Z`, from 1 on. That of a billionth or later one isn't told: numbers above
+-- 4,294,967,295 are read as one.
+abbrev pub mark_text : ℕ → List ℕ
+mark_text wanted =
+    if nat_lt wanted 1000000000 then decimal wanted else codes "1000000000 or a later one"
+
+-- the lines of a fact, indented by two, and those of its expressions by four
+abbrev pub detail_text : Detail → List ℕ
+detail_text (token_at_fault text) = codes "  token: " ++ text ++ codes "\n"
+detail_text (near_label label) = codes "  near: " ++ label ++ codes "\n"
+detail_text (step_label label) = codes "  step: " ++ label ++ codes "\n"
+detail_text (mark_asked wanted there) =
+    codes "  it repeats Z number " ++ mark_text wanted ++ codes ", and there are " ++ decimal there
+    ++ codes "\n"
+detail_text (entry_counts needed there) =
+    codes "  entries it takes: " ++ decimal needed ++ codes ", entries there are: "
+    ++ decimal there ++ codes "\n"
+detail_text (hypothesis_stated label stated) =
+    codes "  " ++ label ++ codes " states\n" ++ expression_line stated
+detail_text (entry_given number given) =
+    codes "  step " ++ decimal number ++ codes " gives\n" ++ expression_line given
+detail_text (hypothesis_asks label asked number given) =
+    asks_text label asked number given (difference asked given)
+detail_text (pair_asked x y e f) =
+    codes "  it asks $d " ++ x ++ codes " " ++ y ++ codes " $., where " ++ x ++ codes " is\n"
+    ++ expression_line e ++ codes "  and " ++ y ++ codes " is\n" ++ expression_line f
+detail_text (shared_by_both variables) =
+    codes "  both have:" ++ symbols_text variables ++ codes "\n"
+detail_text (step_lacks x y) =
+    codes "  this step lacks: $d " ++ x ++ codes " " ++ y ++ codes " $.\n"
+detail_text (missing_pair x y) =
+    codes "  the whole proof lacks: $d " ++ x ++ codes " " ++ y ++ codes " $.\n"
+detail_text (end_given expression number given) =
+    codes "  it states\n" ++ but_given_text expression number given
+detail_text (most_symbols symbols) =
+    codes "  an expression may have " ++ decimal symbols ++ codes " symbols\n"
+detail_text (begun_at place) = codes "  begun: " ++ place ++ codes "\n"
+detail_text (last_closed_at place) = codes "  the last block is closed: " ++ place ++ codes "\n"
+detail_text (block_opened place) = codes "  in the block: " ++ place ++ codes "\n"
+detail_text (declared_at place) = codes "  declared: " ++ place ++ codes "\n"
+detail_text (repeated_at place) = codes "  before: " ++ place ++ codes "\n"
+detail_text (labelled_at place) = codes "  labelled: " ++ place ++ codes "\n"
+detail_text (typed_at place) = codes "  typed: " ++ place ++ codes "\n"
+detail_text (stated_at place) = codes "  stated: " ++ place ++ codes "\n"
+detail_text (block_ended_at place) = codes "  its block ends: " ++ place ++ codes "\n"
+detail_text its_hypotheses = codes "  the theorem's hypotheses\n"
+detail_text (hypothesis_at place label) =
+    codes "    " ++ place ++ codes " " ++ label ++ codes "\n"
+detail_text (stated_later_at place) = codes "  stated further down: " ++ place ++ codes "\n"
+
+-- the text of facts
+abbrev pub details_text : List Detail → List ℕ
+details_text details = flat_map detail_text details

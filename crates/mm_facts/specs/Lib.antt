@@ -1,0 +1,4 @@
+pub mod Mirror
+pub mod Explained
+pub mod Why
+pub mod MeaningFacts

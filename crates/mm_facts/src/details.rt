@@ -1,0 +1,501 @@
+//! The facts that explain a fault of a proof.
+
+ghost use Rattle.std.specs.Prelude.{◌≡◌, ◌≤◌, ◌+◌, ◌++◌, ℕ, List, length, map, take, slice_get};
+ghost use Rattle.std.specs.Prelude.{OnOk, IfOk, IfSome, Some, true, ◌⊎◌};
+ghost use Rattle.std.specs.List.{sum_by};
+ghost use Rattle.mm_text.specs.Files.{most_bytes};
+ghost use Rattle.mm_code.specs.Layout.{texts};
+ghost use Rattle.mm_frame.specs.Sentence.{Sentence, SomeSentence, IsLabelled};
+ghost use Rattle.mm_frame.specs.Form.{IsSound};
+ghost use Rattle.mm_step.specs.Mirror.CodeVerify.{AreHypothesesOf};
+ghost use Rattle.mm_step.specs.declared.fault.ProofRule.TheVariants.{P2, P8, P9, P10, P11, P12};
+ghost use Rattle.mm_step.specs.Stores.{entries_in};
+ghost use Rattle.mm_listing.specs.Halted.{TellsEntry};
+ghost use Rattle.mm_proof.specs.Parsed.{OfProof, SaySteps};
+ghost use Rattle.mm_proof.specs.Verified.{OfMoves};
+ghost use Rattle.mm_step.specs.Substitution.{Symbol};
+ghost use Rattle.mm_step.specs.Steps.{IsProofNumber, AreSteps, IsNumberedMove};
+ghost use Rattle.mm_proof.specs.Tokens.{is_incomplete};
+ghost use Rattle.mm_step.specs.Profiles.{limit_of};
+ghost use Rattle.mm_proof.specs.Strict.{HasFormOf, IsTextFault};
+ghost use Rattle.mm_proof.specs.UnderProfile.{IsPrefixAllowedUnder};
+ghost use Rattle.mm_facts.specs.Explained.{Detail, IsTokensFault, AreDetails, AreLeftOver};
+ghost use Rattle.mm_facts.specs.Explained.{details_text, judged_tokens, hypotheses_stated};
+ghost use Rattle.mm_facts.specs.Explained.{entries_given, AreEndDetails, AreStepDetails};
+ghost use Rattle.mm_facts.specs.Explained.{AreMoveDetails, AreHaltDetails, AreTokenDetails};
+ghost use Rattle.mm_facts.specs.Explained.{AreWholeDetails, pairs_lacking};
+ghost use Rattle.mm_facts.specs.Mirror.Explaining.{IsHaltOf, AddsAtHalt, StepFacts, LabelFacts};
+ghost use Rattle.mm_facts.specs.Mirror.Explaining.{AreJudgedSteps, IsJudgedWhole, AskedFacts};
+ghost use Rattle.mm_facts.specs.Mirror.Explaining.{AreNamedPairs, ApartFacts, IsCauseOf};
+
+use crate::apart::push_apart_pairs;
+use crate::near::Nearest;
+use crate::told::{
+    push_asks, push_counts, push_end, push_given, push_marks, push_missing, push_most, push_near,
+    push_stated, push_step, push_token,
+};
+use mm_distinct::{asked_by, lacking_pairs};
+use mm_frame::{Book, Hypothesis, LabelId, Sym};
+use mm_listing::{Halt, HaltAt, halt_of};
+use mm_places::whole_place;
+use mm_proof::{Parsed, Steps};
+use mm_step::{Profile, ProofFault, ProofRule};
+use std::alloc::{AllocError, Global};
+
+/// What each entry of the stack is, where moves stop.
+fn push_entries(out: &mut Vec<u8>, book: &Book, id: LabelId, halt: &Halt) -> Result<(), AllocError>
+    requires { (limit : ℕ) × IsHaltOf limit book.now.statements id.0 halt.now }
+    ensures { OnOk result ((limit : ℕ) → AddsAtHalt limit book.now.statements id.0 halt.now
+        (λ before s stack kept makers left details. details ≡ entries_given makers stack)
+        out.old.items out.new.items) }
+{
+    for index in 0..halt.makers.len() {
+        push_given(out, book, halt.makers[index], halt.entry(index))?;
+    }
+    Ok(())
+}
+
+/// What all moves of a proof leave, where it breaks the rule.
+fn push_at_end(
+    out: &mut Vec<u8>,
+    book: &Book,
+    id: LabelId,
+    halt: &Halt,
+    rule: ProofRule,
+) -> Result<(), AllocError>
+    requires halt { (limit : ℕ) × IsHaltOf limit book.now.statements id.0 halt.now }
+    requires end { halt.now.at ≡ HaltAt.End }
+    requires rule { halt.now.rule ≡ Some rule }
+    ensures { OnOk result ((limit : ℕ) → AddsAtHalt limit book.now.statements id.0 halt.now
+        (λ before s stack kept makers left details. AreEndDetails s stack makers rule details)
+        out.old.items out.new.items) }
+{
+    match rule {
+        ProofRule::P14 => push_end(
+            out,
+            book,
+            book.expression(id),
+            halt.makers[0],
+            halt.entry(0),
+        ),
+        _ => push_entries(out, book, id, halt),
+    }
+}
+
+/// What each of these hypotheses states.
+fn push_hypotheses(
+    out: &mut Vec<u8>,
+    book: &Book,
+    hypotheses: &[Hypothesis],
+) -> Result<(), AllocError>
+    requires { (stated : List Sentence) × AreHypothesesOf book.now.statements
+        (map (λ h. h.id.0) hypotheses.now) stated }
+    ensures { OnOk result ((stated : List Sentence) → AreHypothesesOf book.now.statements
+        (map (λ h. h.id.0) hypotheses.now) stated
+        → out.new.items ≡ out.old.items ++ details_text (hypotheses_stated stated)) }
+{
+    for hypothesis in hypotheses {
+        push_stated(
+            out,
+            book,
+            book.label(hypothesis.id),
+            book.expression(hypothesis.id),
+        )?;
+    }
+    Ok(())
+}
+
+/// The entries that the step by an assertion takes, and those that there are.
+fn push_too_few(
+    out: &mut Vec<u8>,
+    book: &Book,
+    id: LabelId,
+    halt: &Halt,
+    label: LabelId,
+) -> Result<(), AllocError>
+    requires sound { IsSound book.now.statements }
+    requires halt { (limit : ℕ) × IsHaltOf limit book.now.statements id.0 halt.now }
+    requires place { halt.now.at ≡ HaltAt.Label label }
+    requires rule { halt.now.rule ≡ Some P8 }
+    ensures { OnOk result ((limit : ℕ) → AddsAtHalt limit book.now.statements id.0 halt.now
+        (StepFacts limit P8) out.old.items out.new.items) }
+{
+    let hypotheses = book.frame(label).hypotheses();
+    push_counts(out, hypotheses.len(), halt.makers.len())?;
+    push_hypotheses(out, book, hypotheses)?;
+    push_entries(out, book, id, halt)
+}
+
+/// The entries of the stack that is left from an index on.
+fn entries_from<'h>(
+    alloc: Global,
+    halt: &'h Halt,
+    base: usize,
+) -> Result<Vec<&'h [Sym]>, AllocError>
+    requires { base ≤ length halt.now.makers.items }
+    ensures count { IfOk result (λ entries.
+        base + length entries.items ≡ length halt.now.makers.items) }
+    ensures entries { IfOk result (λ entries. (k : ℕ) (numbers : List ℕ)
+        → slice_get (entries_in entries.items) k ≡ Some numbers
+        → TellsEntry halt.now (base + k) numbers) }
+{
+    let mut entries = Vec::new(alloc);
+    for index in base..halt.makers.len() {
+        entries.push(halt.entry(index))?;
+    }
+    Ok(entries)
+}
+
+/// What each hypothesis of an assertion asks, and the entry that there is for it.
+fn push_asked(
+    out: &mut Vec<u8>,
+    alloc: Global,
+    book: &Book,
+    id: LabelId,
+    halt: &Halt,
+    label: LabelId,
+) -> Result<(), AllocError>
+    requires sound { IsSound book.now.statements }
+    requires halt { (limit : ℕ) × IsHaltOf limit book.now.statements id.0 halt.now }
+    requires place { halt.now.at ≡ HaltAt.Label label }
+    requires rule { (halt.now.rule ≡ Some P9) ⊎ (halt.now.rule ≡ Some P10) }
+    ensures { OnOk result ((limit : ℕ) → AddsAtHalt limit book.now.statements id.0 halt.now
+        AskedFacts out.old.items out.new.items) }
+{
+    let hypotheses = book.frame(label).hypotheses();
+    let base = halt.makers.len() - hypotheses.len();
+    let entries = entries_from(alloc, halt, base)?;
+    for index in 0..hypotheses.len() {
+        let asked = asked_by(alloc, book, id, label, &entries, index)?;
+        let name = book.label(hypotheses[index].id);
+        push_asks(
+            out,
+            book,
+            name,
+            &asked,
+            halt.makers[base + index],
+            entries[index],
+        )?;
+    }
+    Ok(())
+}
+
+/// What is told of the mandatory pairs of an assertion.
+fn push_pairs_asked(
+    out: &mut Vec<u8>,
+    alloc: Global,
+    book: &Book,
+    id: LabelId,
+    halt: &Halt,
+    label: LabelId,
+    rule: ProofRule,
+) -> Result<(), AllocError>
+    requires sound { IsSound book.now.statements }
+    requires halt { (limit : ℕ) × IsHaltOf limit book.now.statements id.0 halt.now }
+    requires place { halt.now.at ≡ HaltAt.Label label }
+    requires broken { halt.now.rule ≡ Some rule }
+    requires apart { (rule ≡ P11) ⊎ (rule ≡ P12) }
+    ensures { OnOk result ((limit : ℕ) → AddsAtHalt limit book.now.statements id.0 halt.now
+        (ApartFacts rule) out.old.items out.new.items) }
+{
+    let frame = book.frame(label);
+    let base = halt.makers.len() - frame.hypotheses().len();
+    let entries = entries_from(alloc, halt, base)?;
+    push_apart_pairs(out, alloc, book, id, rule, &entries, frame.pairs())
+}
+
+/// What is told of the step by a label that breaks a rule, behind that label.
+fn push_step_details(
+    out: &mut Vec<u8>,
+    alloc: Global,
+    book: &Book,
+    id: LabelId,
+    profile: Profile,
+    halt: &Halt,
+    step: (LabelId, ProofRule),
+) -> Result<(), AllocError>
+    requires sound { IsSound book.now.statements }
+    requires halt { IsHaltOf (limit_of profile) book.now.statements id.0 halt.now }
+    requires place { halt.now.at ≡ HaltAt.Label step.0 }
+    requires broken { halt.now.rule ≡ Some step.1 }
+    ensures { OnOk result (AddsAtHalt (limit_of profile) book.now.statements id.0 halt.now
+        (StepFacts (limit_of profile) step.1) out.old.items out.new.items) }
+{
+    match step.1 {
+        ProofRule::P8 => push_too_few(out, book, id, halt, step.0),
+        ProofRule::P9 => push_asked(out, alloc, book, id, halt, step.0),
+        ProofRule::P10 => push_asked(out, alloc, book, id, halt, step.0),
+        ProofRule::P11 => push_pairs_asked(out, alloc, book, id, halt, step.0, step.1),
+        ProofRule::P12 => push_pairs_asked(out, alloc, book, id, halt, step.0, step.1),
+        ProofRule::L1 => push_most(out, profile.limit()),
+        _ => Ok(()),
+    }
+}
+
+/// What is told of the step by a label that breaks a rule.
+fn push_at_label(
+    out: &mut Vec<u8>,
+    alloc: Global,
+    book: &Book,
+    id: LabelId,
+    profile: Profile,
+    halt: &Halt,
+    step: (LabelId, ProofRule),
+) -> Result<(), AllocError>
+    requires sound { IsSound book.now.statements }
+    requires halt { IsHaltOf (limit_of profile) book.now.statements id.0 halt.now }
+    requires place { halt.now.at ≡ HaltAt.Label step.0 }
+    requires broken { halt.now.rule ≡ Some step.1 }
+    ensures { OnOk result (AddsAtHalt (limit_of profile) book.now.statements id.0 halt.now
+        (LabelFacts (limit_of profile) step.1) out.old.items out.new.items) }
+{
+    push_step(out, book.label(step.0))?;
+    push_step_details(out, alloc, book, id, profile, halt, step)
+}
+
+/// The facts of the place where moves stop by the rule.
+fn push_halt(
+    out: &mut Vec<u8>,
+    alloc: Global,
+    book: &Book,
+    id: LabelId,
+    profile: Profile,
+    halt: &Halt,
+    rule: ProofRule,
+) -> Result<(), AllocError>
+    requires sound { IsSound book.now.statements }
+    requires halt { IsHaltOf (limit_of profile) book.now.statements id.0 halt.now }
+    requires broken { halt.now.rule ≡ Some rule }
+    ensures { OnOk result (AddsAtHalt (limit_of profile) book.now.statements id.0 halt.now
+        (λ before s stack kept makers left details.
+        AreHaltDetails (limit_of profile) before s stack kept makers left rule details)
+        out.old.items out.new.items) }
+{
+    match halt.at {
+        HaltAt::End => push_at_end(out, book, id, halt, rule),
+        HaltAt::Label(label) => push_at_label(out, alloc, book, id, profile, halt, (label, rule)),
+        HaltAt::Tag(tag) => push_marks(out, tag, halt.passed - halt.lines.len()),
+        HaltAt::Mark => Ok(()),
+    }
+}
+
+/// The `$d` statements of these pairs.
+fn push_pairs(out: &mut Vec<u8>, book: &Book, pairs: &[(Sym, Sym)]) -> Result<(), AllocError>
+    requires { (named : List (Symbol × Symbol))
+        × AreNamedPairs book.now.statements pairs.now named }
+    ensures { OnOk result ((named : List (Symbol × Symbol))
+        → AreNamedPairs book.now.statements pairs.now named
+        → out.new.items ≡ out.old.items ++ details_text (pairs_lacking named)) }
+{
+    for pair in pairs {
+        push_missing(out, book.name(pair.0), book.name(pair.1))?;
+    }
+    Ok(())
+}
+
+/// The facts of the moves as a whole, which stop by the rule.
+fn push_whole(
+    out: &mut Vec<u8>,
+    alloc: Global,
+    book: &Book,
+    id: LabelId,
+    steps: &Steps,
+    rule: ProofRule,
+) -> Result<(), AllocError>
+    requires { AreSteps book.now.statements id.0 steps.now.moves }
+    ensures { OnOk result (OfMoves book.now.statements id.0 steps.now.moves (λ index s moves.
+        (details : List Detail)
+        × AreWholeDetails (limit_of steps.now.profile) (take index book.now.statements) moves rule
+        details
+        × (out.new.items ≡ out.old.items ++ details_text details))) }
+{
+    match rule {
+        ProofRule::P12 => push_pairs(out, book, &lacking_pairs(alloc, book, id, steps)?),
+        _ => Ok(()),
+    }
+}
+
+/// The moves that the tokens, or those of their known prefix, say.
+fn steps_of(
+    alloc: Global,
+    profile: Profile,
+    book: &Book,
+    id: LabelId,
+    tokens: &[&[u8]],
+) -> Result<Steps, AllocError>
+    requires proof { (index : ℕ) × (s : Sentence) × IsProofNumber book.now.statements id.0 index s }
+    requires room { sum_by length (texts tokens.now) ≤ most_bytes }
+    requires whole { IsJudgedWhole profile book.now.statements id.0 (texts tokens.now) }
+    ensures { IfOk result (AreJudgedSteps profile book.now.statements id.0 (texts tokens.now)) }
+{
+    match Steps::parse(alloc, profile, book, id, tokens) {
+        Ok(Parsed::Steps(steps)) => Ok(steps),
+        Ok(Parsed::Incomplete(steps)) => Ok(steps),
+        Err(ProofFault::Memory) => Err(AllocError),
+        // What breaks a rule over all of the tokens isn't asked for.
+        Err(ProofFault::Rule { .. }) => unreachable!(),
+    }
+}
+
+/// The cause of the fault of a proof.
+#[derive(Drop)]
+pub enum Cause<'t> {
+    /// A rule over the whole of the proof is broken at a byte of a token.
+    Token {
+        index: usize,
+        byte: usize,
+        text: &'t [u8],
+    },
+    /// The moves of the judged tokens, and where they stop.
+    Moves {
+        steps: Steps,
+        halt: Halt,
+    },
+}
+
+/// The cause of the fault of the tokens as the proof of the `$p` with the number, which breaks the
+/// rule at the step.
+pub fn cause_of<'t>(
+    alloc: Global,
+    profile: Profile,
+    book: &Book,
+    id: LabelId,
+    tokens: &[&'t [u8]],
+    fault: (ProofRule, usize),
+) -> Result<Cause<'t>, AllocError>
+    requires proof { (index : ℕ) × (s : Sentence) × IsProofNumber book.now.statements id.0 index s }
+    requires room { sum_by length (texts tokens.now) ≤ most_bytes }
+    requires fault { OfProof book.now.statements id.0 (λ index s.
+        IsTokensFault profile (take index book.now.statements) s (texts tokens.now)
+        fault.0 fault.1) }
+    ensures { IfOk result
+        (IsCauseOf profile book.now.statements id.0 (texts tokens.now) fault.0 fault.1) }
+{
+    // The frame of the `$p` tells that its book is sound.
+    let _own = book.frame(id);
+    if fault.1 == 0 {
+        let (index, byte) = whole_place(alloc, book, id, tokens, fault.0)?;
+        return Ok(Cause::Token {
+            index,
+            byte,
+            text: tokens[index],
+        });
+    }
+    let steps = steps_of(alloc, profile, book, id, tokens)?;
+    let halt = halt_of(alloc, book, id, &steps)?;
+    Ok(Cause::Moves { steps, halt })
+}
+
+/// The label of a statement before the `$p` with the number that is nearest to the wanted one, if
+/// one is near.
+fn near_label<'a>(
+    alloc: Global,
+    book: &Book<'a>,
+    id: LabelId,
+    wanted: &[u8],
+) -> Result<Option<&'a [u8]>, AllocError>
+    ensures { IfOk result (λ found. IfSome found (λ label.
+        OfProof book.now.statements id.0 (λ index s.
+        SomeSentence (take index book.now.statements) (IsLabelled label.now)))) }
+{
+    let mut nearest = Nearest::new(alloc, wanted);
+    for number in 0..id.0 {
+        nearest.offer(book.label(LabelId(number)))?;
+    }
+    Ok(nearest.found)
+}
+
+/// A label that no statement before the `$p` with the number has, and one that is near.
+fn push_unknown_label(
+    out: &mut Vec<u8>,
+    alloc: Global,
+    book: &Book,
+    id: LabelId,
+    label: &[u8],
+) -> Result<(), AllocError>
+    ensures { OnOk result (OfProof book.now.statements id.0 (λ index s. (details : List Detail)
+        × AreTokenDetails (take index book.now.statements) P2 label.now details
+        × (out.new.items ≡ out.old.items ++ details_text details))) }
+{
+    push_token(out, label)?;
+    match near_label(alloc, book, id, label)? {
+        Some(near) => push_near(out, near),
+        None => Ok(()),
+    }
+}
+
+/// What is told of a token at which a rule over the whole of a proof is broken.
+fn push_at_token(
+    out: &mut Vec<u8>,
+    alloc: Global,
+    book: &Book,
+    id: LabelId,
+    rule: ProofRule,
+    text: &[u8],
+) -> Result<(), AllocError>
+    ensures { OnOk result (OfProof book.now.statements id.0 (λ index s. (details : List Detail)
+        × AreTokenDetails (take index book.now.statements) rule text.now details
+        × (out.new.items ≡ out.old.items ++ details_text details))) }
+{
+    match rule {
+        ProofRule::P2 => push_unknown_label(out, alloc, book, id, text),
+        ProofRule::P3 => push_token(out, text),
+        ProofRule::P4 => push_token(out, text),
+        ProofRule::P15 => push_token(out, text),
+        _ => Ok(()),
+    }
+}
+
+/// The facts that explain a fault, whose cause and rule these are.
+pub fn push_cause(
+    out: &mut Vec<u8>,
+    alloc: Global,
+    profile: Profile,
+    book: &Book,
+    id: LabelId,
+    cause: &Cause,
+    rule: ProofRule,
+) -> Result<(), AllocError>
+    requires proof { (index : ℕ) × (s : Sentence) × IsProofNumber book.now.statements id.0 index s }
+    requires cause { (tokens : List (List ℕ)) × (step : ℕ)
+        × IsCauseOf profile book.now.statements id.0 tokens rule step cause.now }
+    ensures { OnOk result ((tokens : List (List ℕ)) (step : ℕ)
+        → IsCauseOf profile book.now.statements id.0 tokens rule step cause.now
+        → OfProof book.now.statements id.0 (λ index s. (details : List Detail)
+        × AreDetails profile (take index book.now.statements) s tokens rule step details
+        × (out.new.items ≡ out.old.items ++ details_text details))) }
+{
+    match cause {
+        Cause::Token { text, .. } => push_at_token(out, alloc, book, id, rule, text),
+        Cause::Moves { steps, halt } => {
+            push_halt(out, alloc, book, id, profile, halt, rule)?;
+            push_whole(out, alloc, book, id, steps, rule)
+        }
+    }
+}
+
+/// What the known prefix of the tokens, which breaks no rule, leaves on the stack.
+pub fn push_left_over(
+    out: &mut Vec<u8>,
+    alloc: Global,
+    profile: Profile,
+    book: &Book,
+    id: LabelId,
+    tokens: &[&[u8]],
+) -> Result<(), AllocError>
+    requires proof { (index : ℕ) × (s : Sentence) × IsProofNumber book.now.statements id.0 index s }
+    requires room { sum_by length (texts tokens.now) ≤ most_bytes }
+    requires incomplete { is_incomplete (texts tokens.now) ≡ true }
+    requires allowed { OfProof book.now.statements id.0 (λ index s.
+        IsPrefixAllowedUnder profile (take index book.now.statements) s (texts tokens.now)) }
+    ensures { OnOk result (OfProof book.now.statements id.0 (λ index s. (details : List Detail)
+        × AreLeftOver profile (take index book.now.statements) s (texts tokens.now) details
+        × (out.new.items ≡ out.old.items ++ details_text details))) }
+{
+    // The frame of the `$p` tells that its book is sound.
+    let _own = book.frame(id);
+    let steps = steps_of(alloc, profile, book, id, tokens)?;
+    let halt = halt_of(alloc, book, id, &steps)?;
+    push_entries(out, book, id, &halt)?;
+    push_stated(out, book, book.label(id), book.expression(id))
+}

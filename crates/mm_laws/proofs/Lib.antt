@@ -1,0 +1,2 @@
+pub mod OwnProofs
+pub mod SavingLaws

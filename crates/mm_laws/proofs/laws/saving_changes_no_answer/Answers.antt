@@ -1,0 +1,5 @@
+use Rattle.mm_laws.proofs.SavingLaws.SavedOnce.{saving_changes_no_answer}
+use Rattle.mm_laws.proofs.laws.saving_changes_no_answer.Goals as goal
+
+pub returns : goal.returns
+returns c = saving_changes_no_answer

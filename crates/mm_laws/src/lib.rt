@@ -1,0 +1,12 @@
+//! Laws of replies.
+#![tactic(auto)]
+
+mod laws;
+
+pub use laws::{
+    all_saved_proofs_are_strict, between_profiles, first_fault_is_told, one_all_saved, one_report,
+    one_saved, one_verdict, own_proof_is_tried_alike, packed_texts_tell, reports_tell_users,
+    saved_proof_is_strict, saving_again_changes_nothing, saving_all_again_changes_nothing,
+    saving_all_changes_no_answer, saving_changes_no_answer, shortened_files_do_not_grow,
+    shortening_changes_no_verdict, small_files_do_not_grow, some_verdict,
+};

@@ -1,0 +1,16 @@
+-- Up to the statement that was read last, the theorems are listed.
+use Rattle.std.proofs.Common.{List, length}
+use Rattle.mm_text.specs.Statement.{PlainStatement}
+use Rattle.mm_minimize.specs.Mirror.AllShortening.{IsListedSoFar}
+use Rattle.mm_verdict.specs.Mirror.Rereading.{IsReadTo}
+use Rattle.mm_minimize.proofs.shorter_list.list_all.Given as goal
+
+abbrev pub invariant-loop-reading : goal.invariant-loop-reading
+invariant-loop-reading g l = record {
+  taken : List PlainStatement;
+  read : IsReadTo l.shortening.checked.now.files taken l.reading;
+  listed : IsListedSoFar l.shortening.checked.now taken l.list;
+}
+
+abbrev pub decreases-loop-reading : goal.decreases-loop-reading
+decreases-loop-reading g l = length l.reading.statements.statements

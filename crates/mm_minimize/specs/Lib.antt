@@ -1,0 +1,2 @@
+pub mod AllShorter
+pub mod Mirror

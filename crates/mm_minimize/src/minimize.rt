@@ -1,0 +1,107 @@
+//! What a database in which nothing is at fault answers to questions for shorter proofs.
+
+ghost use Rattle.std.specs.Prelude.{◌≡◌, ◌<◌, List, length, None, IfOk, IfErr};
+ghost use Rattle.mm_rules.specs.declared.ask.AskFault.TheVariants.{Memory};
+ghost use Rattle.mm_text.specs.Statement.{PlainStatement};
+ghost use Rattle.mm_text.specs.Reading.{Reads};
+ghost use Rattle.mm_rules.specs.Rests.{IsAskFault};
+ghost use Rattle.mm_rules.specs.Answer.{KeepsLabels};
+ghost use Rattle.mm_render.specs.Saved.{FitsSaved};
+ghost use Rattle.mm_render.specs.Shorter.{IsMinimized};
+ghost use Rattle.mm_minimize.specs.AllShorter.{IsAllShortened, IsAllShorterFault, ShorterLine};
+ghost use Rattle.mm_minimize.specs.AllShorter.{AreShorterLines, shorter_text};
+
+use crate::search::Search;
+use crate::shortening::Shortening;
+use crate::shorter_file::{Wanted, shorter_file};
+use crate::shorter_list::shorter_list;
+use mm_rules::AskFault;
+use mm_shorten::Reach;
+use mm_verdict::{Checked, Watch};
+use std::alloc::Global;
+
+/// The small text of the shortest proof of the `$p` with this label that is known: of its own,
+/// or of one that the search gives, where that has fewer bytes, no more steps, and rests on no
+/// further axiom. Marks and mathboxes are heeded: an assertion isn't newly used if the comment
+/// right before it says `(New usage is discouraged.)`, or if it stands in another mathbox; and
+/// the proof stays if that of the theorem says `(Proof modification is discouraged.)`.
+///
+/// # Errors
+///
+/// As for `axioms`.
+pub fn minimized<S: Search>(
+    alloc: Global,
+    checked: &Checked,
+    label: &[u8],
+    search: &mut S,
+) -> Result<Vec<u8>, AskFault>
+    ensures text { IfOk result (λ text. (statements : List PlainStatement)
+        → Reads checked.now.files statements None
+        → IsMinimized checked.now.profile checked.now.files statements label.now text.items) }
+    ensures fault { IfErr result (λ fault. (statements : List PlainStatement)
+        → Reads checked.now.files statements None → IsAskFault statements label.now fault) }
+{
+    let theorem = checked.read_theorem(alloc, label)?;
+    let shortening = Shortening::new(alloc, checked)?;
+    Ok(shortening.minimized(alloc, &theorem, search)?)
+}
+
+/// The same, by a search in what the database has before the theorem.
+pub fn minimized_by_library(
+    alloc: Global,
+    checked: &Checked,
+    label: &[u8],
+) -> Result<Vec<u8>, AskFault>
+    ensures text { IfOk result (λ text. (statements : List PlainStatement)
+        → Reads checked.now.files statements None
+        → IsMinimized checked.now.profile checked.now.files statements label.now text.items) }
+    ensures fault { IfErr result (λ fault. (statements : List PlainStatement)
+        → Reads checked.now.files statements None → IsAskFault statements label.now fault) }
+{
+    let theorem = checked.read_theorem(alloc, label)?;
+    let shortening = Shortening::new(alloc, checked)?;
+    let mut search = shortening.search(alloc, Reach::OneMissing);
+    Ok(shortening.minimized(alloc, &theorem, &mut search)?)
+}
+
+/// A line for each theorem whose proof becomes shorter, and their sums.
+pub fn minimized_list<W: Watch>(
+    alloc: Global,
+    checked: &Checked,
+    watch: &mut W,
+) -> Result<Vec<u8>, AskFault>
+    requires { KeepsLabels checked.now.files checked.now }
+    ensures list { IfOk result (λ text. (statements : List PlainStatement)
+        → Reads checked.now.files statements None
+        → (lines : List ShorterLine)
+        × AreShorterLines checked.now.profile checked.now.files statements lines
+        × (text.items ≡ shorter_text statements lines)) }
+    ensures memory { IfErr result (λ fault. fault ≡ Memory) }
+{
+    let shortening = Shortening::new(alloc, checked)?;
+    let mut search = shortening.search(alloc, Reach::OneMissing);
+    shorter_list(alloc, &shortening, &mut search, watch)
+}
+
+/// The bytes of a file with each proof replaced that becomes shorter.
+pub fn minimized_file<W: Watch>(
+    alloc: Global,
+    checked: &Checked,
+    wanted: Wanted,
+    watch: &mut W,
+) -> Result<Vec<u8>, AskFault>
+    requires { wanted.number < length checked.now.files }
+    ensures shortened { IfOk result (λ new. (statements : List PlainStatement)
+        → Reads checked.now.files statements None
+        → IsAllShortened checked.now.profile wanted.duplicates checked.now.files statements
+        wanted.number new.items) }
+    ensures fits { IfOk result (λ new. FitsSaved checked.now.files wanted.number new.items) }
+    ensures fault { IfErr result (λ fault. (statements : List PlainStatement)
+        → Reads checked.now.files statements None
+        → IsAllShorterFault checked.now.profile wanted.duplicates checked.now.files statements
+        wanted.number fault) }
+{
+    let shortening = Shortening::new(alloc, checked)?;
+    let mut search = shortening.search(alloc, Reach::OneMissing);
+    shorter_file(alloc, &shortening, wanted, &mut search, watch)
+}

@@ -1,0 +1,2 @@
+pub mod ToldProofs
+pub mod SavedProofs

@@ -1,0 +1,2 @@
+-- A file with one proof replaced.
+pub mod FileTotals

@@ -1,0 +1,148 @@
+-- The text of the lines of those steps that are told, one after the other, each with what it uses.
+use Rattle.std.proofs.Common.{◌≡◌, ℕ, zero, suc, ◌+◌, ◌<◌, List, [], ◌∷◌, ◌++◌, take, length, cond}
+use Rattle.std.proofs.Common.{get_or, slice_get, codes, decimal, Some, Bool, true, false, sym, ap}
+use Rattle.std.proofs.Common.{◌∙◌}
+use Rattle.std.proofs.Common.{arith, append_assoc, append-nil, replicate, refl}
+use Rattle.std.proofs.lemmas.List.{take_more, replicate_more, length-replicate}
+use Rattle.std.proofs.lemmas.Grind.{flat_map-append}
+use Rattle.mm_frame.specs.Sentence.{Sentence}
+use Rattle.mm_frame.specs.Numbers.{symbols_of}
+use Rattle.mm_step.specs.Stores.{numbers_in}
+use Rattle.mm_listing.specs.declared.lines.Line.{Line}
+use Rattle.mm_step.specs.Moves.{Move}
+use Rattle.mm_proof.specs.Verified.{OfMoves}
+use Rattle.mm_listing.specs.Listing.{ListedStep, TellsStep}
+use Rattle.mm_text.specs.Statement.{PlainStatement}
+use Rattle.mm_rules.specs.Answer.{labels_at}
+use Rattle.mm_rules.specs.Verdict.{sentences}
+use Rattle.mm_render.specs.Shown.{name_text}
+use Rattle.mm_rules.specs.Shown.{symbols_text}
+use Rattle.mm_render.specs.ShownUses.{more_uses_text, uses_text, used_step_text, used_steps_text}
+use Rattle.mm_render.specs.ShownUses.{AreTold, ShowsUses}
+use Rattle.mm_verdict.specs.Mirror.Theorems.{AreStepsOf}
+use Rattle.mm_render.specs.Mirror.Theorems.{IsUsesTextOf}
+use Rattle.mm_rules.proofs.Numbers.{names_at}
+use Rattle.mm_verdict.proofs.Questions.AskedTheorems.{of_theorem}
+
+-- ---- the steps that a step uses
+
+-- one step more
+one_more_use : (steps : List ℕ) (k : ℕ) → k < length steps
+    → more_uses_text (take (k + 1) steps)
+    ≡ more_uses_text (take k steps) ++ (codes "," ++ decimal (get_or steps k 0))
+one_more_use steps k less = rw (take_more steps k 0 less) (simp (flat_map-append, append-nil))
+
+-- a comma and its number
+pub more_told : (steps : List ℕ) (k : ℕ) (o₀ o₁ o₂ o₃ : List ℕ) → k < length steps
+    → o₁ ≡ o₀ ++ more_uses_text (take k steps) → o₂ ≡ o₁ ++ 44 ∷ []
+    → o₃ ≡ o₂ ++ decimal (get_or steps k 0) → o₃ ≡ o₀ ++ more_uses_text (take (k + 1) steps)
+more_told steps k o₀ o₁ o₂ o₃ less h₁ h₂ h₃ =
+    rw (h₃, h₂, h₁, one_more_use steps k less) (simp append_assoc)
+
+-- ---- a line
+
+-- number, space, uses, space, name, symbols and line feed
+pub used_told : (statements : List Sentence) (line : Line) (step : ListedStep) (number : ℕ)
+    (used : List ℕ) (o₀ o₁ o₂ o₃ o₄ o₅ o₆ o₇ : List ℕ) → TellsStep statements line step
+    → o₁ ≡ o₀ ++ decimal number → o₂ ≡ o₁ ++ 32 ∷ [] → o₃ ≡ o₂ ++ uses_text used
+    → o₄ ≡ o₃ ++ 32 ∷ [] → o₅ ≡ o₄ ++ name_text step.called
+    → o₆ ≡ o₅
+    ++ symbols_text (labels_at (symbols_of statements) (numbers_in line.expression.items))
+    → o₇ ≡ o₆ ++ 10 ∷ [] → o₇ ≡ o₀ ++ used_step_text number step used
+used_told statements line step number used o₀ o₁ o₂ o₃ o₄ o₅ o₆ o₇ tells h₁ h₂ h₃ h₄ h₅ h₆ h₇ =
+    let symbols : labels_at (symbols_of statements) (numbers_in line.expression.items)
+    ≡ step.expression =
+    names_at (symbols_of statements) (numbers_in line.expression.items) step.expression
+    tells.pushed in
+    rw (h₇, h₆, h₅, h₄, h₃, h₂, h₁, symbols) (simp append_assoc)
+
+-- ---- all lines
+
+-- one step more
+one_more_step : (steps : List ListedStep) (rows : List (List ℕ)) (told : List Bool) (n at : ℕ)
+    (step : ListedStep) (row : List ℕ) (is_told : Bool) → slice_get steps at ≡ Some step
+    → slice_get rows at ≡ Some row → slice_get told at ≡ Some is_told
+    → used_steps_text n (take (suc at) steps) (take (suc at) rows) (take (suc at) told)
+    ≡ used_steps_text n (take at steps) (take at rows) (take at told)
+    ++ cond is_told (used_step_text (n + at) step row) []
+one_more_step [] rows told n at step row is_told e f g = absurd cc
+one_more_step (x ∷ steps) [] told n at step row is_told e f g = absurd cc
+one_more_step (x ∷ steps) (y ∷ rows) [] n at step row is_told e f g = absurd cc
+one_more_step (x ∷ steps) (y ∷ rows) (z ∷ told) n zero step row is_told e f g =
+    let same_step : x ≡ step = cc in
+    let same_row : y ≡ row = cc in
+    let same_flag : z ≡ is_told = cc in
+    let number : n + 0 ≡ n = omega arith in
+    append-nil (cond z (used_step_text n x y) [])
+    ∙ rw (same_step, same_row, same_flag, number) refl
+one_more_step (x ∷ steps) (y ∷ rows) (z ∷ told) n (suc at) step row is_told e f g =
+    let rest : used_steps_text (n + 1) (take (suc at) steps) (take (suc at) rows)
+    (take (suc at) told)
+    ≡ used_steps_text (n + 1) (take at steps) (take at rows) (take at told)
+    ++ cond is_told (used_step_text (n + 1 + at) step row) [] =
+    one_more_step steps rows told (n + 1) at step row is_told e f g in
+    let number : n + 1 + at ≡ n + suc at = omega arith in
+    let first : List ℕ = cond z (used_step_text n x y) [] in
+    ap (λ (text : List ℕ). first ++ text) rest
+    ∙ ap (λ (m : ℕ). first ++ (used_steps_text (n + 1) (take at steps) (take at rows) (take at told)
+    ++ cond is_told (used_step_text m step row) [])) number
+    ∙ sym (append_assoc first
+    (used_steps_text (n + 1) (take at steps) (take at rows) (take at told))
+    (cond is_told (used_step_text (n + suc at) step row) []))
+
+-- one line more, or none
+pub one_more_told : (steps : List ListedStep) (rows : List (List ℕ)) (told : List Bool) (at : ℕ)
+    (step : ListedStep) (row : List ℕ) (is_told : Bool) → slice_get steps at ≡ Some step
+    → slice_get rows at ≡ Some row → slice_get told at ≡ Some is_told
+    → used_steps_text 1 (take (at + 1) steps) (take (at + 1) rows) (take (at + 1) told)
+    ≡ used_steps_text 1 (take at steps) (take at rows) (take at told)
+    ++ cond is_told (used_step_text (at + 1) step row) []
+one_more_told steps rows told at step row is_told e f g =
+    let next : at + 1 ≡ suc at = omega arith in
+    let number : 1 + at ≡ at + 1 = omega arith in
+    ap (λ (n : ℕ). used_steps_text 1 (take n steps) (take n rows) (take n told)) next
+    ∙ one_more_step steps rows told 1 at step row is_told e f g
+    ∙ ap (λ (n : ℕ). used_steps_text 1 (take at steps) (take at rows) (take at told)
+    ++ cond is_told (used_step_text n step row) []) number
+
+-- one flag more
+pub one_more_flag : (n : ℕ) → replicate n true ++ true ∷ [] ≡ replicate (n + 1) true
+one_more_flag n = replicate_more n true
+
+-- as many flags as rows
+pub told_long : (essential : Bool) (root : ℕ) (rows : List (List ℕ)) (told : List Bool)
+    → AreTold essential root rows told → length told ≡ length rows
+told_long false root rows told is = ap length is ∙ length-replicate (length rows) true
+told_long true root rows told is = is.count
+
+-- ---- the proof of a theorem
+
+-- what is told of the moves is told of the theorem's tokens
+pub uses_shown : (essential : Bool) (ss : List Sentence) (statements : List PlainStatement)
+    (label : List ℕ) (id : ℕ) (steps : List (Move ℕ)) (text : List ℕ) → ss ≡ sentences statements
+    → AreStepsOf statements label id steps
+    → OfMoves ss id steps (λ index s moves. IsUsesTextOf essential (take index ss) moves text)
+    → ShowsUses essential statements label text
+uses_shown essential ss statements label id steps text same r holds =
+    let h = of_theorem ss statements label id steps
+    (λ before s moves. IsUsesTextOf essential before moves text) same r holds in
+    record {
+      index = r.index;
+      s = r.s;
+      there = r.there;
+      named = r.named;
+      complete = r.complete;
+      shown = record {
+        moves = r.moves;
+        said = r.told;
+        steps = h.steps;
+        listed = h.listed;
+        rows = h.rows;
+        used = h.used;
+        root = h.root;
+        rooted = h.rooted;
+        told = h.told;
+        chosen = h.chosen;
+        laid = h.laid;
+      };
+    }

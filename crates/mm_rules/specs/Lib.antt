@@ -1,0 +1,14 @@
+pub mod Verdict
+pub mod RuleCodes
+pub mod Meanings
+pub mod Places
+pub mod Status
+pub mod Conclusion
+pub mod Faults
+pub mod Rests
+pub mod Shown
+pub mod Forms
+pub mod Compared
+pub mod Answer
+pub mod Mirror
+pub mod Explained

@@ -1,0 +1,202 @@
+//! Lines and columns, as a person counts them.
+
+ghost use Rattle.std.specs.Prelude.{◌≡◌, ◌≤◌, ◌==◌, List, ◌++◌, map, take, drop, count_by, OnOk};
+ghost use Rattle.mm_text.specs.Files.{plain_file};
+ghost use Rattle.mm_text.specs.LineNumbers.{line_in, line_of as line_at};
+ghost use Rattle.mm_text.specs.Token.{plain_token};
+ghost use Rattle.mm_rules.specs.Places.{bytes_of as bytes_at, bytes_since_feed};
+ghost use Rattle.mm_rules.specs.Places.{column_of as column_at};
+ghost use Rattle.mm_rules.specs.Places.{name_of as name_at, place_of as place_at, place_text};
+
+use crate::words::push_decimal;
+use mm_text::{File, Token};
+use std::alloc::AllocError;
+use std::marker::Model;
+
+/// The bytes of one of the files; none where there is no such file.
+pub fn bytes_of<'a>(files: &[File<'a>], file: usize) -> &'a [u8]
+    ensures { result.now ≡ bytes_at (map plain_file files.now) file }
+{
+    match files.get(file) {
+        Some(file) => file.bytes,
+        None => b"",
+    }
+}
+
+/// How many line feeds a text has.
+fn count_feeds(bytes: &[u8]) -> usize
+    ensures { result ≡ count_by (λ b. b == 10) bytes.now }
+{
+    bytes.iter().filter(|byte| **byte == b'\n').count()
+}
+
+/// The bytes of a text before a position.
+pub fn bytes_before(bytes: &[u8], at: usize) -> &[u8]
+    ensures { result.now ≡ take at bytes.now }
+{
+    bytes.get(..at).unwrap_or(bytes)
+}
+
+/// The bytes of a text from a position on.
+pub fn bytes_from(bytes: &[u8], at: usize) -> &[u8]
+    ensures { result.now ≡ drop at bytes.now }
+{
+    bytes.get(at..).unwrap_or(b"")
+}
+
+/// The line of a position in a text, counted on from that of a position before it.
+#[tactic(auto, using(crate::proofs::Lines::feeds_between))]
+fn line_from(bytes: &[u8], before: usize, line: usize, at: usize) -> usize
+    requires before { before ≤ at }
+    requires line { line ≡ line_in bytes.now before }
+    ensures { result ≡ line_in bytes.now at }
+{
+    line + count_feeds(bytes_from(bytes_before(bytes, at), before))
+}
+
+/// The line, from 1, of a position in one of the files: one more than the number of line feeds
+/// before it.
+pub fn line_of(files: &[File], file: usize, at: usize) -> usize
+    ensures { result ≡ line_at (map plain_file files.now) file at }
+{
+    line_from(bytes_of(files, file), 0, 1, at)
+}
+
+/// The lines of the files. They are counted on from the position that was asked for last, where the
+/// next one stands behind it in the same file.
+#[derive(Drop)]
+pub struct LineCount<'a> {
+    files: &'a [File<'a>],
+    /// The position that was asked for last, and its line.
+    file: usize,
+    at: usize,
+    line: usize,
+}
+
+impl<'a> Model for LineCount<'a> {
+    ghost use Rattle.std.specs.Prelude.{◌≡◌, List, map};
+    ghost use Rattle.mm_text.specs.Files.{PlainFile, plain_file};
+    ghost use Rattle.mm_text.specs.LineNumbers.{line_of as line_at};
+
+    ghost Value = { List PlainFile };
+
+    ghost view = { λ c. map plain_file c.files.now };
+
+    ghost invariant = { λ c. c.line ≡ line_at (map plain_file c.files.now) c.file c.at };
+}
+
+impl<'a> LineCount<'a> {
+    /// The lines of these files.
+    pub fn new(files: &'a [File<'a>]) -> LineCount<'a>
+        ensures { result ≡ map plain_file files.now }
+    {
+        LineCount {
+            files,
+            file: 0,
+            at: 0,
+            line: 1,
+        }
+    }
+
+    /// The line of a position, counted on where it can be.
+    fn counted_line(&self, file: usize, at: usize) -> usize
+        ensures { result ≡ line_at self.now file at }
+    {
+        let bytes = bytes_of(self.files, file);
+        if file == self.file && self.at <= at {
+            line_from(bytes, self.at, self.line, at)
+        } else {
+            line_from(bytes, 0, 1, at)
+        }
+    }
+
+    /// The line, from 1, of a position in one of the files, as `line_of` tells it.
+    pub fn line_of(&mut self, file: usize, at: usize) -> usize
+        ensures line { result ≡ line_at self.old file at }
+        ensures files { self.new ≡ self.old }
+    {
+        self.line = self.counted_line(file, at);
+        self.file = file;
+        self.at = at;
+        self.line
+    }
+}
+
+/// The name of a file; nothing where there is none.
+pub fn name_of<'a>(files: &[File<'a>], file: usize) -> &'a [u8]
+    ensures { result.now ≡ name_at (map plain_file files.now) file }
+{
+    let Some(file) = files.get(file) else {
+        return b"";
+    };
+    file.name
+}
+
+/// A place in the files, as an editor tells it.
+#[derive(Clone, Copy)]
+pub struct Place {
+    /// The number of the handed file, from 0.
+    pub file: usize,
+    /// The line, from 1.
+    pub line: usize,
+    /// The column, from 1: one more than the number of bytes since the line's beginning.
+    pub(crate) column: usize,
+}
+
+/// How many bytes stand at the end of a text, behind its last line feed.
+fn count_since_feed(bytes: &[u8]) -> usize
+    ensures { result ≡ bytes_since_feed bytes.now }
+{
+    bytes
+        .iter()
+        .rev()
+        .take_while(|byte| **byte != b'\n')
+        .count()
+}
+
+/// The column, from 1, of a position in one of the files.
+fn column_of(files: &[File], file: usize, at: usize) -> usize
+    ensures { result ≡ column_at (map plain_file files.now) file at }
+{
+    count_since_feed(bytes_before(bytes_of(files, file), at)) + 1
+}
+
+impl<'a> LineCount<'a> {
+    /// The place where a token of the files stands; its line is counted on where it can be.
+    pub fn place_of(&mut self, token: Token) -> Place
+        ensures place { result
+            ≡ place_at self.old (plain_token token.entry).file (plain_token token.entry).at }
+        ensures files { self.new ≡ self.old }
+    {
+        let at = token.at as usize;
+        let column = column_of(self.files, token.file, at);
+        Place {
+            file: token.file,
+            line: self.line_of(token.file, at),
+            column,
+        }
+    }
+}
+
+/// The place of a position in one of the files.
+pub fn place_of(files: &[File], file: usize, at: usize) -> Place
+    ensures { result ≡ place_at (map plain_file files.now) file at }
+{
+    Place {
+        file,
+        line: line_of(files, file, at),
+        column: column_of(files, file, at),
+    }
+}
+
+/// Puts the text of a place at the end.
+pub fn push_place(out: &mut Vec<u8>, files: &[File], place: Place) -> Result<(), AllocError>
+    ensures { OnOk result (out.new.items ≡ out.old.items
+        ++ place_text (map plain_file files.now) place) }
+{
+    out.extend_from_slice(name_of(files, place.file))?;
+    out.push(b':')?;
+    push_decimal(out, place.line)?;
+    out.push(b':')?;
+    push_decimal(out, place.column)
+}

@@ -1,0 +1,2 @@
+pub mod AllSaved
+pub mod Mirror

@@ -1,0 +1,2 @@
+-- The bytes of files, with others in place of some of them.
+pub mod StatementsInFiles

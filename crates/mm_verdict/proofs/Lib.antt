@@ -1,0 +1,4 @@
+pub mod Verdicts
+pub mod Questions
+pub mod ReplyTexts
+pub mod FileBytes

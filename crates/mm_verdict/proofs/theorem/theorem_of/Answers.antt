@@ -1,0 +1,14 @@
+-- The steps are those that the tokens say, and so they prove the theorem.
+use Rattle.std.proofs.Common.{map}
+use Rattle.mm_verdict.specs.Mirror.Theorems.{SayStepsOf}
+use Rattle.mm_verdict.proofs.Questions.AskedTheorems.{steps_prove}
+use Rattle.mm_verdict.proofs.theorem.theorem_of.Goals as goal
+
+pub returns-clause-said : goal.returns-clause-said
+returns-clause-said c = λ index s number. let told = c.in_ok-steps.ensures.said index s number in (told.1, told.2, told.3)
+
+pub returns-clause-proved : goal.returns-clause-proved
+returns-clause-proved c =
+    let said : SayStepsOf c.args.book.now.statements c.args.id.0 (map (λ t. t.now) c.args.tokens.now) c.in_ok-steps.steps.moves =
+    λ index s number. let told = c.in_ok-steps.ensures.said index s number in (told.1, told.2, told.3) in
+    steps_prove c.args.profile c.args.book.now.statements c.args.id.0 (map (λ t. t.now) c.args.tokens.now) c.in_ok-steps.steps c.requires.proof c.in_ok-steps.ensures.profile said

@@ -1,0 +1,9 @@
+pub mod Reply
+pub mod Faults
+pub mod Stated
+pub mod Saved
+pub mod Mirror
+pub mod Laws
+pub mod FaultLaws
+pub mod Alone
+pub mod Why

@@ -1,0 +1,28 @@
+//! The verdict over a database, and what is asked of one in which nothing is at fault.
+#![tactic(auto)]
+
+mod checked;
+mod faults;
+mod form;
+mod reply;
+pub mod reread;
+mod text;
+mod theorem;
+mod theorems;
+mod verdict;
+mod watch;
+
+pub use checked::Checked;
+pub use faults::{AllFaults, all_faults};
+pub use form::Form;
+pub use reply::{
+    Reply, accepted_reply, ask_reply, conclusion_status, fault_reply, first_status, push_label,
+    push_labels, push_refusal, push_refusals, refusal_status, refused_text, text_status,
+    verdict_reply,
+};
+pub use reread::{has_label, proof_of, read_on, reader};
+pub use text::{handed_tokens, is_space, placed_tokens, proof_tokens};
+pub use theorem::{Theorem, read_theorem};
+pub use theorems::Rereading;
+pub use verdict::{beginning, check, check_with, conclude, judge_files, load, make_room, next};
+pub use watch::{SoFar, Unwatched, Watch};

@@ -1,0 +1,153 @@
+//! Statements of checked files, read again: `check` keeps no proof.
+
+ghost use Rattle.std.specs.Prelude.{◌≡◌, ◌↔◌, List, map, true, None, Ok, OnOk, IfOk, IfErr, IsTrue};
+ghost use Rattle.mm_text.specs.Statement.{PlainStatement, plain_statement, HasForm};
+ghost use Rattle.mm_text.specs.Token.{plain_token};
+ghost use Rattle.mm_text.specs.Files.{plain_file};
+ghost use Rattle.mm_text.specs.Reading.{Reads};
+ghost use Rattle.mm_text.specs.Remaining.{IsUnread};
+ghost use Rattle.mm_code.specs.Words.{texts_of};
+ghost use Rattle.mm_frame.specs.Sentence.{sentence_in, IsLabelled};
+ghost use Rattle.mm_rules.specs.declared.ask.AskFault.TheVariants.{Memory};
+ghost use Rattle.mm_rules.specs.Verdict.{CanBeRead, proof_of};
+ghost use Rattle.mm_verdict.specs.Mirror.Judged.{TakesNext};
+ghost use Rattle.mm_rules.specs.Shown.{Stands};
+
+use mm_rules::AskFault;
+use mm_text::{File, Seed, Statement, Statements, TextFault, Token};
+use std::alloc::{AllocError, Global};
+
+/// Whether a statement has a label.
+pub fn has_label(statement: &Statement, label: &[u8]) -> bool
+    ensures { IsTrue result ↔ IsLabelled label.now (sentence_in statement.now) }
+{
+    match &statement.label {
+        Some(own) => own.text == label,
+        None => false,
+    }
+}
+
+/// A reader of files that can be read.
+pub fn reader<'a>(
+    alloc: Global,
+    seed: Seed,
+    files: &'a [File<'a>],
+) -> Result<Statements<'a>, AskFault>
+    requires { CanBeRead (map plain_file files.now) }
+    ensures unread { IfOk result (IsUnread (map plain_file files.now)) }
+    ensures memory { IfErr result (λ fault. fault ≡ Memory) }
+{
+    match Statements::new(alloc, seed, files) {
+        Ok(statements) => Ok(statements),
+        Err(TextFault::Memory) => Err(AskFault::Memory),
+        // The files break no rule as a whole, and no token was read.
+        Err(TextFault::Load(_) | TextFault::Fault { .. }) => unreachable!(),
+    }
+}
+
+/// Reads the next statement of a text without a fault; `false` where there is none.
+pub fn read_on<'a>(
+    statements: &mut Statements<'a>,
+    into: &mut Statement<'a>,
+) -> Result<bool, AskFault>
+    requires { statements.old.ending ≡ None }
+    ensures taken { IfOk result (λ more.
+        TakesNext statements.old more (plain_statement into.new) statements.new) }
+    ensures formed { result ≡ Ok true → HasForm (plain_statement into.new) }
+    ensures memory { IfErr result (λ fault. fault ≡ Memory) }
+{
+    match statements.read(into) {
+        Ok(more) => Ok(more),
+        Err(TextFault::Memory) => Err(AskFault::Memory),
+        // The text has no fault: `check` read it to its end.
+        Err(TextFault::Load(_) | TextFault::Fault { .. }) => unreachable!(),
+    }
+}
+
+/// Reads statements up to one with this label, which stands among those that are left.
+fn seek<'a>(
+    statements: &mut Statements<'a>,
+    label: &[u8],
+    into: &mut Statement<'a>,
+) -> Result<(), AskFault>
+    requires faultless { statements.old.ending ≡ None }
+    requires stands { (s : PlainStatement) × Stands statements.old.statements label.now s }
+    ensures found { OnOk result
+        (Stands statements.old.statements label.now (plain_statement into.new)) }
+    ensures formed { OnOk result (HasForm (plain_statement into.new)) }
+    ensures memory { IfErr result (λ fault. fault ≡ Memory) }
+{
+    while read_on(statements, into)? {
+        if has_label(into, label) {
+            return Ok(());
+        }
+    }
+    // The statement is among those that were left.
+    unreachable!()
+}
+
+/// Reads the files up to a statement with this label, which stands in them.
+pub fn reread<'a>(
+    alloc: Global,
+    seed: Seed,
+    files: &'a [File<'a>],
+    label: &[u8],
+) -> Result<Statement<'a>, AskFault>
+    requires readable { CanBeRead (map plain_file files.now) }
+    requires stands { (statements : List PlainStatement) × (s : PlainStatement)
+        × Reads (map plain_file files.now) statements None × Stands statements label.now s }
+    ensures found { IfOk result (λ statement. (statements : List PlainStatement)
+        → Reads (map plain_file files.now) statements None
+        → Stands statements label.now (plain_statement statement)) }
+    ensures formed { IfOk result (λ statement. HasForm (plain_statement statement)) }
+    ensures memory { IfErr result (λ fault. fault ≡ Memory) }
+{
+    let mut statements = reader(alloc, seed, files)?;
+    let mut statement = Statement::empty(alloc);
+    let found = seek(&mut statements, label, &mut statement);
+    drop(statements);
+    match found {
+        Ok(()) => Ok(statement),
+        Err(fault) => {
+            drop(statement);
+            Err(fault)
+        }
+    }
+}
+
+/// Reads the texts of tokens, in place of what the list held.
+#[tactic(auto, using(std::proofs::lemmas::List::take_all, mm_rules::proofs::Judgements::JudgedProofs::texts_of))]
+pub(crate) fn read_texts<'a>(
+    texts: &mut Vec<&'a [u8]>,
+    tokens: &[Token<'a>],
+) -> Result<(), AllocError>
+    ensures { OnOk result (map (λ t. t.now) texts.new.items
+        ≡ texts_of (map plain_token tokens.now)) }
+{
+    texts.clear();
+    for token in tokens {
+        texts.push(token.text)?;
+    }
+    Ok(())
+}
+
+/// Reads the texts of the tokens of a statement's proof, in place of what the list held.
+pub(crate) fn read_proof<'a>(
+    tokens: &mut Vec<&'a [u8]>,
+    statement: &Statement<'a>,
+) -> Result<(), AllocError>
+    ensures { OnOk result (map (λ t. t.now) tokens.new.items
+        ≡ proof_of (plain_statement statement.now)) }
+{
+    read_texts(tokens, &statement.proof)
+}
+
+/// The texts of the tokens of a statement's proof.
+pub fn proof_of<'a>(alloc: Global, statement: &Statement<'a>) -> Result<Vec<&'a [u8]>, AllocError>
+    ensures { IfOk result (λ v. map (λ t. t.now) v.items
+        ≡ proof_of (plain_statement statement.now)) }
+{
+    let mut tokens = Vec::with_capacity(alloc, statement.proof.len())?;
+    read_proof(&mut tokens, statement)?;
+    Ok(tokens)
+}
