@@ -20,6 +20,8 @@ mod mm_places;
 mod mm_distinct;
 #[path = "../mm_forms/mod.rs"]
 mod mm_forms;
+#[path = "../mm_base/mod.rs"]
+mod mm_base;
 #[path = "../mm_text/mod.rs"]
 mod mm_text;
 
@@ -28,7 +30,8 @@ use crate::mm_frame::{LabelId, Taken};
 use crate::mm_forms::{compress};
 use crate::mm_proof::{verify, Parsed, Proved, Prover, Steps};
 use crate::mm_step::{Flat, Profile};
-use crate::mm_text::{File, Kind, Seed, Statement, Statements, Token};
+use crate::mm_base::{File, Kind, Seed, Statement, Token};
+use crate::mm_text::{Statements};
 
 /// What the calls took, and what they went over.
 #[derive(Default)]

@@ -1,8 +1,8 @@
 -- Who uses an assertion, and who rests on it. What proofs use, and what a theorem rests on, are
 -- those of `Rests`.
 use Rattle.std.specs.Prelude.{◌≡◌, ◌↔◌, ℕ, List, Contains, Bool, true, false}
-use Rattle.mm_text.specs.declared.statement.Kind.TheVariants.{Axiom}
-use Rattle.mm_text.specs.Statement.{PlainStatement}
+use Rattle.mm_base.specs.declared.statement.Kind.TheVariants.{Axiom}
+use Rattle.mm_base.specs.Statement.{PlainStatement}
 use Rattle.mm_frame.specs.Sentence.{IsHypothesis, IsAssertion}
 use Rattle.mm_rules.specs.declared.ask.AskFault.{AskFault}
 use Rattle.mm_rules.specs.declared.ask.AskFault.TheVariants.{Rule, Memory}

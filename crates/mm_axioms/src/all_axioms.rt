@@ -3,8 +3,8 @@
 ghost use Rattle.std.specs.Prelude.{◌≡◌, ◌<◌, ◌++◌, ◌∷◌, [], List, ℕ, map, length, OnOk, IfOk};
 ghost use Rattle.std.specs.Prelude.{IfSome, None, Contains, codes};
 ghost use Rattle.std.specs.List.{AllByRecursion, flat_map};
-ghost use Rattle.mm_text.specs.declared.statement.Kind.TheVariants.{Provable};
-ghost use Rattle.mm_text.specs.Statement.{PlainStatement};
+ghost use Rattle.mm_base.specs.declared.statement.Kind.TheVariants.{Provable};
+ghost use Rattle.mm_base.specs.Statement.{PlainStatement};
 ghost use Rattle.mm_text.specs.Reading.{Reads};
 ghost use Rattle.mm_axioms.specs.AllAxioms.{ReportLine, AreReportLines, unproved_line, proved_line};
 ghost use Rattle.mm_rules.specs.Answer.{labels_at, KeepsLabels};

@@ -10,7 +10,7 @@ ghost use Rattle.mm_rules.specs.Mirror.Marks.{IsMarked, UsedIn, AreBackward, IsA
 ghost use Rattle.mm_axioms.specs.Mirror.Shortening.{AreFounded};
 ghost use Rattle.mm_axioms.specs.Mirror.Tables.{IsOfKind, AreTables, IsReportIn};
 ghost use Rattle.mm_frame.specs.Taken.{kind_behind};
-ghost use Rattle.mm_text.specs.declared.statement.Kind.TheVariants.{Provable};
+ghost use Rattle.mm_base.specs.declared.statement.Kind.TheVariants.{Provable};
 
 use crate::rows::{Rows, reached, rests_no_further, rows_of};
 use mm_frame::{Book, LabelId, LabelKind};

@@ -5,9 +5,10 @@ use Rattle.std.proofs.Common.{cond, not, ◌&&◌, Option, Some, None, option_ma
 use Rattle.std.proofs.Common.{unwrap_or, ◌⊎◌, inl, inr, refl, sym, ap, subst, ◌∙◌, arith}
 use Rattle.std.specs.List.{AllZip}
 use Rattle.mm_text.specs.declared.fault.LoadRule.{LoadRule}
-use Rattle.mm_text.specs.Token.{PlainToken}
-use Rattle.mm_text.specs.Statement.{PlainStatement, is_provable}
-use Rattle.mm_text.specs.Files.{most_bytes, PlainFile, total_bytes, HasTwins, BreaksLoad}
+use Rattle.mm_base.specs.Token.{PlainToken}
+use Rattle.mm_base.specs.Statement.{PlainStatement, is_provable}
+use Rattle.mm_base.specs.MostBytes.{most_bytes}
+use Rattle.mm_text.specs.Files.{PlainFile, total_bytes, HasTwins, BreaksLoad}
 use Rattle.mm_text.specs.Reading.{PlainFault, Reads}
 use Rattle.mm_text.specs.LineNumbers.{feeds_in}
 use Rattle.mm_text.specs.Alike.{token_on, statement_on, fault_on, AreAlike, AreReadAlike}
@@ -30,7 +31,7 @@ use Rattle.mm_verdict.specs.Reply.{text_of, status_of, line_with, refusal_word}
 use Rattle.mm_rules.specs.Places.{name_of}
 use Rattle.mm_rules.specs.RuleCodes.{code_of}
 use Rattle.mm_check.specs.Alike.{AlikeFilesHaveOneReply}
-use Rattle.mm_text.proofs.Lists.{cons_split, append_split, same_length, unmapped}
+use Rattle.mm_base.proofs.Lists.{cons_split, append_split, same_length, unmapped}
 use Rattle.mm_text.specs.declared.fault.LoadRule.TheVariants as load
 use Rattle.mm_rules.specs.declared.rule.Rule.TheVariants as rules
 

@@ -22,7 +22,7 @@ use Rattle.mm_check.specs.Reply.{IsAllShortenedReply, IsShorterReply}
 use Rattle.mm_minimize.specs.AllShorter.{IsAllShorterFault, ShorterLine, AreShorterLines, shorter_text}
 use Rattle.mm_axioms.specs.AllAxioms.{ReportLine, AreReportLines}
 use Rattle.mm_rules.specs.Verdict.{Refused, Verdict, Load, HasVerdict}
-use Rattle.mm_text.specs.Statement.{PlainStatement}
+use Rattle.mm_base.specs.Statement.{PlainStatement}
 use Rattle.mm_text.specs.Reading.{Reads}
 use Rattle.mm_step.specs.declared.profile.Profile.{Profile}
 use Rattle.mm_step.specs.declared.profile.Profile.TheVariants.{Lenient}

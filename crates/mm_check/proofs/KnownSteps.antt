@@ -2,7 +2,7 @@
 use Rattle.std.proofs.Common.{◌≡◌, ℕ, ◌+◌, List, [], ◌∷◌, ◌++◌, length, take, Bool, true, false}
 use Rattle.std.proofs.Common.{Option, Some, None, inl, inr, refl, sym, ap, subst, ◌∙◌, append-nil}
 use Rattle.std.specs.List.{AllZip}
-use Rattle.mm_text.proofs.Lists.{zip_length}
+use Rattle.mm_base.proofs.Lists.{zip_length}
 use Rattle.mm_frame.specs.Sentence.{Sentence}
 use Rattle.mm_step.specs.declared.fault.ProofRule.{ProofRule}
 use Rattle.mm_listing.specs.declared.halt.Halt.{Halt}

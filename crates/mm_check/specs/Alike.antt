@@ -1,7 +1,8 @@
 -- The law of files that show the same: what comments say changes no reply to `check`.
 use Rattle.std.specs.Prelude.{◌≤◌, ℕ, List}
 use Rattle.std.specs.List.{AllZip}
-use Rattle.mm_text.specs.Files.{PlainFile, most_bytes, total_bytes}
+use Rattle.mm_text.specs.Files.{PlainFile, total_bytes}
+use Rattle.mm_base.specs.MostBytes.{most_bytes}
 use Rattle.mm_text.specs.Alike.{AreAlike}
 use Rattle.mm_step.specs.declared.profile.Profile.{Profile}
 use Rattle.mm_check.specs.Reply.{IsReply}

@@ -4,7 +4,7 @@ use Rattle.std.specs.Prelude.{Bool, true, false, None}
 use Rattle.std.specs.Prelude.{◌⊎◌, codes}
 use Rattle.std.specs.Io.KnownBytes.{Appends}
 use Rattle.mm_text.specs.declared.fault.LoadRule.TheVariants.{F3}
-use Rattle.mm_text.specs.Statement.{PlainStatement}
+use Rattle.mm_base.specs.Statement.{PlainStatement}
 use Rattle.mm_text.specs.Files.{PlainFile}
 use Rattle.mm_text.specs.Device.{AppendsBeginning}
 use Rattle.mm_frame.specs.Sentence.{Sentence, sentence_of}

@@ -2,17 +2,17 @@
 
 ghost use Rattle.std.specs.Prelude.{ℕ, List, map, IfOk};
 ghost use Rattle.mm_text.specs.Files.{plain_file};
-ghost use Rattle.mm_text.specs.Statement.{plain_statement};
+ghost use Rattle.mm_base.specs.Statement.{plain_statement};
 ghost use Rattle.mm_explain.specs.Mirror.Reached.{HasReached, IsUnreached};
 ghost use Rattle.mm_check.specs.Reply.{IsLoneAnswer, IsLoneReply, IsNotFoundReply};
 ghost use Rattle.mm_rules.specs.Status.{number_of};
 
 use crate::known::known_reply;
 use crate::question::LoneQuestion;
+use mm_base::{File, Seed};
 use mm_explain::read_to::read_to;
 use mm_explain::{Reached, Unreached, try_reply};
 use mm_rules::AskFault;
-use mm_text::{File, Seed};
 use mm_verdict::{Reply, ask_reply, fault_reply};
 use std::alloc::{AllocError, Global};
 

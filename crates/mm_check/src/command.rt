@@ -13,10 +13,11 @@ use crate::question::{
     LoneQuestion, Question, WholeQuestion, all_saved_reply, question_reply, whole_reply,
 };
 use crate::shorter_reply::shorter_file_reply;
+use mm_base::{File, Seed};
 use mm_minimize::Wanted;
 use mm_rules::Status;
 use mm_step::Profile;
-use mm_text::{Counted, File, Seed};
+use mm_text::Counted;
 use mm_verdict::{Form, Reply, Unwatched, Watch};
 use std::alloc::{AllocError, Global};
 use std::io::Write;

@@ -2,8 +2,9 @@
 
 ghost use Rattle.std.specs.Prelude.{◌≡◌, ◌≤◌, ℕ, List, map, length, take, true, IfOk};
 ghost use Rattle.std.specs.List.{sum_by};
-ghost use Rattle.mm_text.specs.Files.{most_bytes, plain_file};
-ghost use Rattle.mm_text.specs.Statement.{plain_statement};
+ghost use Rattle.mm_base.specs.MostBytes.{most_bytes};
+ghost use Rattle.mm_text.specs.Files.{plain_file};
+ghost use Rattle.mm_base.specs.Statement.{plain_statement};
 ghost use Rattle.mm_code.specs.Layout.{texts};
 ghost use Rattle.mm_frame.specs.Sentence.{Sentence};
 ghost use Rattle.mm_step.specs.declared.profile.Profile.TheVariants.{Lenient};
@@ -21,6 +22,7 @@ ghost use Rattle.mm_render.specs.Shown.{IsListingText};
 ghost use Rattle.mm_rules.specs.Status.{number_of};
 ghost use Rattle.mm_rules.specs.Verdict.{proof_of};
 
+use mm_base::File;
 use mm_explain::{Reached, judged_steps, push_head};
 use mm_facts::{cause_of, fault_place, push_cause, push_left_over};
 use mm_frame::{Book, LabelId};
@@ -29,7 +31,6 @@ use mm_proof::Steps;
 use mm_render::text_of;
 use mm_rules::{LineCount, Rule, Status, refusal};
 use mm_step::{Profile, ProofFault, ProofRule};
-use mm_text::File;
 use mm_verdict::{Reply, proof_of, push_refusal, refusal_status};
 use std::alloc::{AllocError, Global};
 

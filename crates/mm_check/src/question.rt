@@ -3,7 +3,7 @@
 ghost use Rattle.std.specs.Prelude.{◌≡◌, ◌<◌, ◌++◌, ◌∷◌, List, map, length, OnOk, IfOk, IfErr};
 ghost use Rattle.std.specs.Prelude.{None, codes};
 ghost use Rattle.std.specs.List.{AllByRecursion};
-ghost use Rattle.mm_text.specs.Statement.{PlainStatement};
+ghost use Rattle.mm_base.specs.Statement.{PlainStatement};
 ghost use Rattle.mm_text.specs.Files.{plain_file};
 ghost use Rattle.mm_text.specs.Reading.{Reads};
 ghost use Rattle.mm_step.specs.declared.profile.Profile.TheVariants.{Lenient};
@@ -27,6 +27,7 @@ ghost use Rattle.mm_axioms.specs.Users.{AreUsers, IsAssertionFault};
 
 use crate::shorter_reply::{minimized_answer, shorter_reply};
 use mm_axioms::{Report, all_axioms_text, all_users, axioms, direct_users};
+use mm_base::{File, Seed};
 use mm_explain::{Unaccepted, explained};
 use mm_frame::LabelId;
 use mm_render::{
@@ -36,7 +37,6 @@ use mm_render::{
 use mm_rules::{AskFault, AskRule, CheckFault, Refusal, Rule, Status, name_of};
 use mm_save::saved_all;
 use mm_step::Profile;
-use mm_text::{File, Seed};
 use mm_verdict::{
     AllFaults, Checked, Form, Reply, Watch, accepted_reply, all_faults, ask_reply, check,
     check_with, conclusion_status, fault_reply, first_status, push_label, push_labels,

@@ -1,7 +1,7 @@
 //! Replies to questions for shorter proofs.
 
 ghost use Rattle.std.specs.Prelude.{◌≡◌, ◌<◌, List, map, length, IfOk, None};
-ghost use Rattle.mm_text.specs.Statement.{PlainStatement};
+ghost use Rattle.mm_base.specs.Statement.{PlainStatement};
 ghost use Rattle.mm_text.specs.Files.{plain_file};
 ghost use Rattle.mm_text.specs.Reading.{Reads};
 ghost use Rattle.mm_step.specs.declared.profile.Profile.TheVariants.{Lenient};
@@ -11,10 +11,10 @@ ghost use Rattle.mm_check.specs.Reply.{IsMinimizedReply, IsQuestionReply, IsShor
 ghost use Rattle.mm_check.specs.Reply.{IsAllShortenedReply};
 ghost use Rattle.mm_step.specs.declared.profile.Profile.{Profile};
 
+use mm_base::{File, Seed};
 use mm_minimize::{Wanted, minimized_by_library, minimized_file, minimized_list};
 use mm_rules::{AskFault, CheckFault, Status, name_of};
 use mm_step::Profile;
-use mm_text::{File, Seed};
 use mm_verdict::{
     Checked, Reply, Watch, ask_reply, check, check_with, conclusion_status, verdict_reply,
 };

@@ -5,11 +5,11 @@ use Rattle.std.proofs.Common.{ap, ◌∙◌, inl, inr, ◌<◌, ◌++◌, length
 use Rattle.std.proofs.Common.{append-nil}
 use Rattle.std.specs.List.{onto_first, join_with_byte, AllByRecursion}
 use Rattle.std.proofs.lemmas.Bool.{cases_Bool}
-use Rattle.mm_text.specs.Token.{PlainToken, is_space, with_byte, tokens_from}
-use Rattle.mm_text.proofs.Tokens.WordsAndComments.{tokens_from-nil, tokens_from-space}
-use Rattle.mm_text.proofs.Tokens.WordsAndComments.{tokens_from-byte, tokens_from-run}
-use Rattle.mm_text.proofs.Tokens.WordsAndComments.{with_byte_joined}
-use Rattle.mm_text.proofs.Lists.{all_append, all_back, all_prefix}
+use Rattle.mm_base.specs.Token.{PlainToken, is_space, with_byte, tokens_from}
+use Rattle.mm_base.proofs.TokensFrom.{tokens_from-nil, tokens_from-space}
+use Rattle.mm_base.proofs.TokensFrom.{tokens_from-byte, tokens_from-run}
+use Rattle.mm_base.proofs.TokensFrom.{with_byte_joined}
+use Rattle.mm_base.proofs.Lists.{all_append, all_back, all_prefix}
 use Rattle.mm_code.specs.Words.{texts_of, tokens_in, LacksWhiteSpace, IsOneToken}
 use Rattle.mm_code.specs.Layout.{indent, token_line, IsLine, LaidOut, AreLetterLines}
 use Rattle.mm_code.specs.Layout.{in_parentheses, CompressedLaidOut}

@@ -3,7 +3,7 @@
 use Rattle.std.proofs.Common.{◌≡◌, ℕ, zero, suc, ◌-◌, inl, inr, List, [], ◌∷◌, ◌++◌, true}
 use Rattle.std.proofs.Common.{length, map, refl, sym, ap, ◌∙◌, arith, append_assoc, replicate}
 use Rattle.std.proofs.lemmas.Bool.{cases_lt}
-use Rattle.mm_text.specs.Token.{is_space}
+use Rattle.mm_base.specs.Token.{is_space}
 use Rattle.mm_code.specs.Layout.{in_parentheses}
 use Rattle.mm_code.specs.SmallLayout.{LinePiece, token, bytes_of, behind, letter_pieces, shown}
 use Rattle.mm_code.specs.SmallLayout.{SmallLaidOut}

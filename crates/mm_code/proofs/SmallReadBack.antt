@@ -5,8 +5,8 @@ use Rattle.std.proofs.Common.{true, false, length, map, refl, sym, ap, ◌∙◌
 use Rattle.std.proofs.Common.{append_assoc, append-nil, replicate}
 use Rattle.std.specs.List.{onto_first, AllByRecursion}
 use Rattle.std.proofs.lemmas.Bool.{cases_lt}
-use Rattle.mm_text.specs.Token.{is_space}
-use Rattle.mm_text.proofs.Lists.{all_append}
+use Rattle.mm_base.specs.Token.{is_space}
+use Rattle.mm_base.proofs.Lists.{all_append}
 use Rattle.mm_code.specs.Words.{tokens_in, LacksWhiteSpace, IsOneToken}
 use Rattle.mm_code.specs.Layout.{in_parentheses}
 use Rattle.mm_code.specs.SmallLayout.{LinePiece, token, letter, behind, letter_pieces, shown}

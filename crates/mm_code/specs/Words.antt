@@ -1,7 +1,7 @@
 -- What a reader of a text finds in it: its tokens (the Metamath book, section 4.1.1).
 use Rattle.std.specs.Prelude.{◌≡◌, ℕ, ◌<◌, false, List, length, map}
 use Rattle.std.specs.List.{AllByRecursion}
-use Rattle.mm_text.specs.Token.{PlainToken, is_space, tokens_from}
+use Rattle.mm_base.specs.Token.{PlainToken, is_space, tokens_from}
 
 -- the bytes of tokens, without where they stand
 abbrev pub texts_of : List PlainToken → List (List ℕ)

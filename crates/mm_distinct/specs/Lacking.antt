@@ -1,7 +1,7 @@
 -- Which `$d` statements a proof lacks: those with which, put before the theorem, no move breaks
 -- P12, up to the first that breaks another rule (the Metamath book, sections 4.1.4 and 4.2.4).
 use Rattle.std.specs.Prelude.{◌≡◌, ◌≢◌, ◌<◌, ℕ, List, [], ◌∷◌, ◌++◌, map, Contains, None}
-use Rattle.mm_text.specs.declared.statement.Kind.TheVariants.{Distinct}
+use Rattle.mm_base.specs.declared.statement.Kind.TheVariants.{Distinct}
 use Rattle.mm_frame.specs.Sentence.{Sentence}
 use Rattle.mm_frame.specs.Rules.{AllMeant}
 use Rattle.mm_step.specs.declared.fault.ProofRule.{ProofRule}

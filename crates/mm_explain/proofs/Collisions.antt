@@ -3,11 +3,11 @@ use Rattle.std.proofs.Common.{◌≡◌, ◌≢◌, ℕ, ◌+◌, List, [], ◌�
 use Rattle.std.proofs.Common.{option_map, refl, sym, ap, subst, ◌∙◌, arith}
 use Rattle.std.specs.List.{flat_map}
 use Rattle.std.specs.Option.{option_or}
-use Rattle.mm_text.specs.declared.token.Token.{Token}
-use Rattle.mm_text.specs.Blocks.{IsInnermost}
+use Rattle.mm_base.specs.declared.token.Token.{Token}
+use Rattle.mm_base.specs.Blocks.{IsInnermost}
 use Rattle.mm_text.specs.Files.{PlainFile}
-use Rattle.mm_text.specs.Statement.{PlainStatement, plain_statement}
-use Rattle.mm_text.specs.Token.{PlainToken, plain_token}
+use Rattle.mm_base.specs.Statement.{PlainStatement, plain_statement}
+use Rattle.mm_base.specs.Token.{PlainToken, plain_token}
 use Rattle.mm_frame.specs.declared.rule.MeaningRule.{MeaningRule}
 use Rattle.mm_frame.specs.declared.rule.MeaningRule.TheVariants.{M1}
 use Rattle.mm_frame.specs.Breaking.{BreaksAt}

@@ -4,7 +4,7 @@ use Rattle.std.proofs.Common.{◌≡◌, ℕ, ◌<◌, ◌≤◌, List, map, tak
 use Rattle.std.proofs.Common.{slice_set, Option, Some, None, refl, sym, ap, subst, ◌∙◌, arith}
 use Rattle.std.proofs.lemmas.List.{length-take, length-map, map-set}
 use Rattle.std.proofs.lemmas.Option.{slice_get_past}
-use Rattle.mm_text.specs.declared.file.File.{File}
+use Rattle.mm_base.specs.declared.file.File.{File}
 use Rattle.mm_text.specs.Files.{PlainFile, plain_file, total_bytes}
 use Rattle.mm_text.proofs.Inclusions.OpenFiles.{file_there}
 use Rattle.mm_text.proofs.Reader.WholeReadings.{bytes_kept}

@@ -9,11 +9,12 @@ use Rattle.std.proofs.lemmas.Bool.{cases_lt, eqb-true, false_from_ne_true}
 use Rattle.std.proofs.lemmas.List.{take_all, take-append-le, map-append, length-map}
 use Rattle.std.proofs.lemmas.List.Elements.{filter-append}
 use Rattle.std.proofs.lemmas.Grind.{flat_map-append}
-use Rattle.mm_text.specs.declared.statement.Kind.TheVariants.{Provable}
-use Rattle.mm_text.specs.declared.file.File.{File}
-use Rattle.mm_text.specs.Statement.{PlainStatement, HasForm, is_provable}
-use Rattle.mm_text.specs.Files.{PlainFile, most_bytes, plain_file}
-use Rattle.mm_text.proofs.Lists.{all_push, zip_push, get_pushed, get_parted}
+use Rattle.mm_base.specs.declared.statement.Kind.TheVariants.{Provable}
+use Rattle.mm_base.specs.declared.file.File.{File}
+use Rattle.mm_base.specs.Statement.{PlainStatement, HasForm, is_provable}
+use Rattle.mm_text.specs.Files.{PlainFile, plain_file}
+use Rattle.mm_base.specs.MostBytes.{most_bytes}
+use Rattle.mm_base.proofs.Lists.{all_push, zip_push, get_pushed, get_parted}
 use Rattle.mm_frame.specs.declared.number.LabelId.{LabelId}
 use Rattle.mm_frame.specs.declared.answer.Found.{Found}
 use Rattle.mm_frame.specs.declared.answer.Found.TheVariants as found

@@ -8,16 +8,16 @@ use Rattle.std.proofs.lemmas.List.{drop-append-le, drop_all, map-append, length-
 use Rattle.std.proofs.lemmas.List.{length-drop}
 use Rattle.std.proofs.lemmas.List.Sums.{sum_by-append, count_by-le-length}
 use Rattle.std.proofs.lemmas.Option.{none-some, slice_get_within}
-use Rattle.mm_text.specs.declared.statement.Kind.{Kind}
-use Rattle.mm_text.specs.declared.statement.Kind.TheVariants.{Opening, Closing}
-use Rattle.mm_text.specs.declared.token.Token.{Token}
-use Rattle.mm_text.specs.Blocks.{openings, closings, is_opening}
-use Rattle.mm_text.specs.Blocks.{is_closing}
+use Rattle.mm_base.specs.declared.statement.Kind.{Kind}
+use Rattle.mm_base.specs.declared.statement.Kind.TheVariants.{Opening, Closing}
+use Rattle.mm_base.specs.declared.token.Token.{Token}
+use Rattle.mm_base.specs.Blocks.{openings, closings, is_opening}
+use Rattle.mm_base.specs.Blocks.{is_closing}
 use Rattle.mm_text.specs.Files.{PlainFile}
 use Rattle.mm_text.specs.Remaining.{IsUnread, Remaining}
-use Rattle.mm_text.specs.Statement.{PlainStatement}
-use Rattle.mm_text.specs.Token.{PlainToken, plain_token}
-use Rattle.mm_text.proofs.Lists.{get_kept, get_pushed, pushed_cases}
+use Rattle.mm_base.specs.Statement.{PlainStatement}
+use Rattle.mm_base.specs.Token.{PlainToken, plain_token}
+use Rattle.mm_base.proofs.Lists.{get_kept, get_pushed, pushed_cases}
 use Rattle.mm_text.proofs.Reader.OpenBlocks.{balanced_more, balanced_nothing, opening_count}
 use Rattle.mm_text.proofs.Reader.OpenBlocks.{closing_count}
 use Rattle.mm_frame.specs.Sentence.{SomeSentence, sentence_of, IsLabelled}

@@ -4,15 +4,15 @@ use Rattle.std.proofs.Common.{length, true, refl, sym, ap, ◌∙◌, arith}
 use Rattle.std.proofs.Common.{reverse}
 use Rattle.std.proofs.lemmas.List.{reverse-append, take-map}
 use Rattle.mm_text.specs.declared.scope.OpenBlock.{OpenBlock}
-use Rattle.mm_text.specs.declared.statement.Kind.{Kind}
-use Rattle.mm_text.specs.declared.statement.Kind.TheVariants.{Opening, Closing}
-use Rattle.mm_text.specs.declared.token.Token.{Token}
-use Rattle.mm_text.specs.Blocks.{AreBalanced, AreClosed, IsInnermost}
-use Rattle.mm_text.specs.Blocks.{is_opening, is_closing}
+use Rattle.mm_base.specs.declared.statement.Kind.{Kind}
+use Rattle.mm_base.specs.declared.statement.Kind.TheVariants.{Opening, Closing}
+use Rattle.mm_base.specs.declared.token.Token.{Token}
+use Rattle.mm_base.specs.Blocks.{AreBalanced, AreClosed, IsInnermost}
+use Rattle.mm_base.specs.Blocks.{is_opening, is_closing}
 use Rattle.mm_text.specs.Files.{PlainFile}
 use Rattle.mm_text.specs.Mirror.Reader.{PlainScope}
 use Rattle.mm_text.specs.Remaining.{IsUnread, Remaining}
-use Rattle.mm_text.specs.Statement.{PlainStatement}
+use Rattle.mm_base.specs.Statement.{PlainStatement}
 use Rattle.mm_text.proofs.Reader.OpenBlocks.{AreOpen, after_kind, scope_of, scope_after, scope_more}
 use Rattle.mm_text.proofs.Reader.OpenBlocks.{scope_open, balanced_prefix}
 use Rattle.mm_text.proofs.Reader.WholeReadings.{readings_are_balanced}

@@ -8,13 +8,13 @@ use Rattle.std.proofs.lemmas.List.{map-append}
 use Rattle.std.proofs.lemmas.List.Elements.{filter-append}
 use Rattle.mm_text.specs.declared.fault.TextRule.{TextRule}
 use Rattle.mm_text.specs.declared.fault.TextRule.TheVariants.{S6}
-use Rattle.mm_text.specs.Token.{PlainToken}
-use Rattle.mm_text.specs.Statement.{PlainStatement}
-use Rattle.mm_text.specs.Blocks.{is_closing}
+use Rattle.mm_base.specs.Token.{PlainToken}
+use Rattle.mm_base.specs.Statement.{PlainStatement}
+use Rattle.mm_base.specs.Blocks.{is_closing}
 use Rattle.mm_text.specs.Files.{PlainFile}
 use Rattle.mm_text.specs.Reading.{PlainFault, Reads}
 use Rattle.mm_text.specs.Remaining.{Remaining}
-use Rattle.mm_text.proofs.Lists.{get_parted, get_pushed}
+use Rattle.mm_base.proofs.Lists.{get_parted, get_pushed}
 use Rattle.mm_frame.specs.Rules.{AllMeant}
 use Rattle.mm_step.specs.declared.profile.Profile.{Profile}
 use Rattle.mm_rules.specs.Verdict.{PlainRefusal, CanBeRead, sentences, text_refusal}

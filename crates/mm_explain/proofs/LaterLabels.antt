@@ -13,13 +13,13 @@ use Rattle.std.specs.Option.{option_or, option_to_list}
 use Rattle.std.specs.Str.{bytes_eq}
 use Rattle.std.proofs.lemmas.List.{drop-map, map-append}
 use Rattle.std.proofs.lemmas.Grind.{flat_map-append}
-use Rattle.mm_text.specs.declared.token.Token.{Token}
-use Rattle.mm_text.specs.Token.{PlainToken, plain_token}
-use Rattle.mm_text.specs.Statement.{PlainStatement}
+use Rattle.mm_base.specs.declared.token.Token.{Token}
+use Rattle.mm_base.specs.Token.{PlainToken, plain_token}
+use Rattle.mm_base.specs.Statement.{PlainStatement}
 use Rattle.mm_text.specs.Files.{PlainFile}
 use Rattle.mm_text.specs.Reading.{PlainFault, Reads}
 use Rattle.mm_text.specs.Remaining.{IsUnread, Remaining}
-use Rattle.mm_text.proofs.Lists.{take_next, split_at}
+use Rattle.mm_base.proofs.Lists.{take_next, split_at}
 use Rattle.mm_frame.specs.Sentence.{Sentence}
 use Rattle.mm_step.specs.declared.fault.ProofRule.{ProofRule}
 use Rattle.mm_step.specs.declared.fault.ProofRule.TheVariants.{P2, P6, P7}

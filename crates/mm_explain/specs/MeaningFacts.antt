@@ -5,11 +5,11 @@ use Rattle.std.specs.Prelude.{Option, Some, None, option_map, unwrap_or, slice_g
 use Rattle.std.specs.List.{flat_map}
 use Rattle.std.specs.Option.{option_to_list}
 use Rattle.std.specs.Str.{bytes_eq}
-use Rattle.mm_text.specs.declared.statement.Kind.{Kind}
-use Rattle.mm_text.specs.declared.statement.Kind.TheVariants.{Constants, Variables, Floating}
-use Rattle.mm_text.specs.Token.{PlainToken}
-use Rattle.mm_text.specs.Statement.{PlainStatement}
-use Rattle.mm_text.specs.Blocks.{IsInnermost}
+use Rattle.mm_base.specs.declared.statement.Kind.{Kind}
+use Rattle.mm_base.specs.declared.statement.Kind.TheVariants.{Constants, Variables, Floating}
+use Rattle.mm_base.specs.Token.{PlainToken}
+use Rattle.mm_base.specs.Statement.{PlainStatement}
+use Rattle.mm_base.specs.Blocks.{IsInnermost}
 use Rattle.mm_text.specs.Files.{PlainFile}
 use Rattle.mm_text.specs.Reading.{PlainFault, Reads}
 use Rattle.mm_frame.specs.declared.rule.MeaningRule.{MeaningRule}

@@ -1,6 +1,6 @@
 -- Labels of the statements of files, also where a fault ends them.
 use Rattle.std.specs.Prelude.{ℕ, List, Option}
-use Rattle.mm_text.specs.Statement.{PlainStatement}
+use Rattle.mm_base.specs.Statement.{PlainStatement}
 use Rattle.mm_text.specs.Files.{PlainFile}
 use Rattle.mm_text.specs.Reading.{PlainFault, Reads}
 use Rattle.mm_rules.specs.Shown.{Stands}

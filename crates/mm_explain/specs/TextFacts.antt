@@ -8,9 +8,9 @@ use Rattle.std.specs.Prelude.{Some, None}
 use Rattle.std.specs.Option.{option_to_list}
 use Rattle.mm_text.specs.declared.fault.TextRule.{TextRule}
 use Rattle.mm_text.specs.declared.fault.TextRule.TheVariants.{X2, X5, X8, S6}
-use Rattle.mm_text.specs.Token.{PlainToken, is_space}
-use Rattle.mm_text.specs.Statement.{PlainStatement}
-use Rattle.mm_text.specs.Blocks.{is_closing}
+use Rattle.mm_base.specs.Token.{PlainToken, is_space}
+use Rattle.mm_base.specs.Statement.{PlainStatement}
+use Rattle.mm_base.specs.Blocks.{is_closing}
 use Rattle.mm_text.specs.Files.{PlainFile}
 use Rattle.mm_text.specs.Reading.{PlainFault, Reads}
 use Rattle.mm_text.specs.Replaced.{with_bytes}

@@ -4,8 +4,8 @@ use Rattle.std.specs.Prelude.{◌≡◌, ℕ, ◌-◌, ◌==◌, if◌then◌els
 use Rattle.std.specs.Prelude.{take, length, not, Option, Some, None, codes}
 use Rattle.std.specs.Prelude.{decimal}
 use Rattle.std.specs.List.{flat_map, AllZip}
-use Rattle.mm_text.specs.Token.{tokens_from}
-use Rattle.mm_text.specs.Statement.{PlainStatement}
+use Rattle.mm_base.specs.Token.{tokens_from}
+use Rattle.mm_base.specs.Statement.{PlainStatement}
 use Rattle.mm_text.specs.Files.{PlainFile}
 use Rattle.mm_text.specs.Reading.{PlainFault, Reads}
 use Rattle.mm_frame.specs.Sentence.{Sentence, sentence_of}

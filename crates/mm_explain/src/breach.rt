@@ -3,8 +3,8 @@
 ghost use Rattle.std.specs.Prelude.{◌≡◌, ◌≢◌, ◌+◌, [], List, ℕ, map, true, IfOk, OnOk};
 ghost use Rattle.mm_text.specs.Files.{plain_file};
 ghost use Rattle.mm_text.specs.Remaining.{IsUnread};
-ghost use Rattle.mm_text.specs.Statement.{plain_statement, HasForm};
-ghost use Rattle.mm_text.specs.Token.{plain_token};
+ghost use Rattle.mm_base.specs.Statement.{plain_statement, HasForm};
+ghost use Rattle.mm_base.specs.Token.{plain_token};
 ghost use Rattle.mm_frame.specs.Breaking.{BreaksAt};
 ghost use Rattle.mm_frame.specs.Sentence.{sentence_of};
 ghost use Rattle.mm_explain.specs.MeaningFacts.{token_at};
@@ -14,9 +14,10 @@ ghost use Rattle.mm_verdict.specs.Mirror.Judged.{IsRead, TakesNext};
 ghost use Rattle.mm_rules.specs.Verdict.{CanBeRead, sentences};
 
 use crate::read_to::take;
+use mm_base::{File, Seed, Statement, Token};
 use mm_frame::MeaningRule;
 use mm_rules::{Progress, Stop};
-use mm_text::{File, Seed, Statement, Statements, TextFault, Token};
+use mm_text::{Statements, TextFault};
 use mm_verdict::{beginning, make_room};
 use std::alloc::{AllocError, Global};
 

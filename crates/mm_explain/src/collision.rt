@@ -1,9 +1,9 @@
 //! Where a statement breaks a rule of meaning, and with what it collides there.
 
 ghost use Rattle.std.specs.Prelude.{◌≡◌, ◌++◌, List, ℕ, map, reverse, IfOk, OnOk};
-ghost use Rattle.mm_text.specs.Blocks.{AreClosed, IsInnermost};
+ghost use Rattle.mm_base.specs.Blocks.{AreClosed, IsInnermost};
 ghost use Rattle.mm_text.specs.Files.{plain_file};
-ghost use Rattle.mm_text.specs.Statement.{PlainStatement};
+ghost use Rattle.mm_base.specs.Statement.{PlainStatement};
 ghost use Rattle.mm_rules.specs.Answer.{plain_refusal};
 ghost use Rattle.mm_facts.specs.Explained.{Detail, details_text};
 ghost use Rattle.mm_explain.specs.MeaningFacts.{AreEarlierFacts, AreMeaningFacts};
@@ -14,10 +14,10 @@ ghost use Rattle.mm_rules.specs.declared.rule.Rule.TheVariants.{Meaning};
 
 use crate::breach::{Breach, read_breach, read_next, reader};
 use crate::earlier::last_met_before;
+use mm_base::{File, Kind, Seed, Statement, Token};
 use mm_facts::{push_block, push_met, push_token};
 use mm_frame::MeaningRule;
 use mm_rules::{Refusal, Rule};
-use mm_text::{File, Kind, Seed, Statement, Token};
 use std::alloc::{AllocError, Global};
 
 /// The blocks that are open once a statement more is read, the innermost last.

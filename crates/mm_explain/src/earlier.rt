@@ -4,8 +4,8 @@ ghost use Rattle.std.specs.Prelude.{◌≡◌, ◌∷◌, [], map, take, drop, o
 ghost use Rattle.std.specs.List.{flat_map};
 ghost use Rattle.std.specs.Option.{option_to_list};
 ghost use Rattle.mm_text.specs.Files.{plain_file};
-ghost use Rattle.mm_text.specs.Statement.{plain_statement};
-ghost use Rattle.mm_text.specs.Token.{plain_token};
+ghost use Rattle.mm_base.specs.Statement.{plain_statement};
+ghost use Rattle.mm_base.specs.Token.{plain_token};
 ghost use Rattle.mm_explain.specs.MeaningFacts.{declared_by, last_met, looked_at, looked_at_within};
 ghost use Rattle.mm_explain.specs.MeaningFacts.{last_looked_at, mentions, symbols_before};
 ghost use Rattle.mm_explain.specs.MeaningFacts.{token_at, typed_by};
@@ -13,8 +13,8 @@ ghost use Rattle.mm_explain.specs.Mirror.Breaches.{IsBreach, Site};
 ghost use Rattle.mm_rules.specs.Verdict.{CanBeRead};
 
 use crate::breach::{Breach, read_next, reader};
+use mm_base::{File, Kind, Seed, Statement, Token};
 use mm_frame::MeaningRule;
-use mm_text::{File, Kind, Seed, Statement, Token};
 use std::alloc::{AllocError, Global};
 
 /// The token, where its text is the name.

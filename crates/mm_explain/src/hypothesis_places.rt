@@ -13,10 +13,10 @@ ghost use Rattle.mm_rules.specs.Verdict.{CanBeRead, proof_of};
 
 use crate::own_hypotheses::push_own_hypotheses;
 use crate::scope::push_scope;
+use mm_base::{File, Seed};
 use mm_facts::Cause;
 use mm_frame::{Book, LabelId};
 use mm_step::ProofRule;
-use mm_text::{File, Seed};
 use std::alloc::{AllocError, Global};
 
 /// Whether the theorem's own hypotheses are told where the rule is broken.

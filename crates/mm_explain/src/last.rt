@@ -9,8 +9,8 @@ ghost use Rattle.mm_explain.specs.Mirror.Last.{EndsRun};
 
 use crate::collision::meaning_facts;
 use crate::text_fault::text_facts;
+use mm_base::{File, Seed};
 use mm_rules::{Refusal, Rule};
-use mm_text::{File, Seed};
 use std::alloc::{AllocError, Global};
 
 /// The facts that explain the refusal for the fault that ends the run, and the position that is

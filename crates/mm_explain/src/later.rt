@@ -3,7 +3,7 @@
 ghost use Rattle.std.specs.Prelude.{◌≡◌, ◌++◌, [], ◌∷◌, map, drop, option_map, IfOk, OnOk};
 ghost use Rattle.std.specs.Option.{option_to_list};
 ghost use Rattle.mm_text.specs.Files.{plain_file};
-ghost use Rattle.mm_text.specs.Token.{plain_token};
+ghost use Rattle.mm_base.specs.Token.{plain_token};
 ghost use Rattle.mm_facts.specs.Explained.{details_text, stated_later_at};
 ghost use Rattle.mm_explain.specs.Later.{first_stated as first_stated_of};
 ghost use Rattle.mm_explain.specs.Mirror.Reasons.{AreLabelsIn};
@@ -13,7 +13,7 @@ ghost use Rattle.mm_rules.specs.Verdict.{CanBeRead};
 use crate::breach::reader;
 use crate::placed::push_stated_later;
 use crate::text_fault::next;
-use mm_text::{File, Seed, Statement, Token};
+use mm_base::{File, Seed, Statement, Token};
 use std::alloc::{AllocError, Global};
 
 /// The labels of all statements of the files, up to the end or to the fault of the text.

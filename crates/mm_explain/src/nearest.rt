@@ -5,8 +5,9 @@ ghost use Rattle.mm_text.specs.Files.{plain_file};
 ghost use Rattle.mm_explain.specs.Near.{IsLabelIn, IsLabelOf};
 
 use crate::text_fault::next;
+use mm_base::{File, Seed, Statement};
 use mm_facts::Nearest;
-use mm_text::{File, Seed, Statement, Statements, TextFault};
+use mm_text::{Statements, TextFault};
 use std::alloc::{AllocError, Global};
 
 /// Offers the labels of the statements that are left, up to the end or to the fault.

@@ -2,8 +2,8 @@
 
 ghost use Rattle.std.specs.Prelude.{◌≡◌, ◌++◌, ◌∷◌, [], List, map, IfOk, OnOk};
 ghost use Rattle.mm_text.specs.Files.{plain_file};
-ghost use Rattle.mm_text.specs.Statement.{PlainStatement, plain_statement};
-ghost use Rattle.mm_text.specs.Token.{plain_token};
+ghost use Rattle.mm_base.specs.Statement.{PlainStatement, plain_statement};
+ghost use Rattle.mm_base.specs.Token.{plain_token};
 ghost use Rattle.mm_frame.specs.Sentence.{Sentence};
 ghost use Rattle.mm_facts.specs.Explained.{Detail, details_text};
 ghost use Rattle.mm_explain.specs.HypothesisPlaces.{AreOwnHypotheses};
@@ -12,10 +12,10 @@ ghost use Rattle.mm_explain.specs.Mirror.Standing.{AddsEach, AreEarlier, IsPlace
 ghost use Rattle.mm_rules.specs.Verdict.{CanBeRead};
 
 use crate::breach::{read_next, reader};
+use mm_base::{File, Seed, Statement, Token};
 use mm_facts::push_hypothesis_at;
 use mm_frame::{Book, Hypothesis, LabelId};
 use mm_rules::LineCount;
-use mm_text::{File, Seed, Statement, Token};
 use std::alloc::{AllocError, Global};
 
 /// Puts the first token of a statement behind the others, if it has a label.

@@ -5,8 +5,8 @@ ghost use Rattle.mm_text.specs.Files.{plain_file};
 ghost use Rattle.mm_facts.specs.Explained.{begun_at, last_closed_at, stated_later_at, detail_text};
 ghost use Rattle.mm_rules.specs.Places.{place_of as place_at, place_text};
 
+use mm_base::File;
 use mm_rules::{place_of, push_place};
-use mm_text::File;
 use std::alloc::AllocError;
 
 /// Where what the fault stands in began.

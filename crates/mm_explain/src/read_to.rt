@@ -1,10 +1,11 @@
 //! The statements of files up to the theorem with a label, whatever their proofs.
 
 ghost use Rattle.std.specs.Prelude.{◌≡◌, ◌+◌, ◌-◌, ◌<◌, ◌≤◌, ◌^◌, ℕ, List, map, IfOk, IfErr};
-ghost use Rattle.mm_text.specs.declared.statement.Kind.TheVariants.{Closing};
-ghost use Rattle.mm_text.specs.Files.{most_bytes, plain_file, PlainFile};
+ghost use Rattle.mm_base.specs.declared.statement.Kind.TheVariants.{Closing};
+ghost use Rattle.mm_base.specs.MostBytes.{most_bytes};
+ghost use Rattle.mm_text.specs.Files.{plain_file, PlainFile};
 ghost use Rattle.mm_text.specs.Remaining.{IsUnread};
-ghost use Rattle.mm_text.specs.Statement.{plain_statement, HasForm, bytes_in};
+ghost use Rattle.mm_base.specs.Statement.{plain_statement, HasForm, bytes_in};
 ghost use Rattle.mm_frame.specs.Active.{open_marks, close_marks};
 ghost use Rattle.mm_verdict.specs.Alone.{IsNoTheorem};
 ghost use Rattle.mm_rules.specs.declared.fault.CheckFault.TheVariants.{Memory};
@@ -15,9 +16,10 @@ ghost use Rattle.mm_explain.specs.Mirror.Reached.{EndsSeeking, HasReached, IsSee
 ghost use Rattle.mm_explain.specs.Mirror.Reached.{StopsBefore, TakesAs, TakesTurn};
 ghost use Rattle.mm_rules.specs.Verdict.{CanBeRead};
 
+use mm_base::{File, Kind, Seed, Statement};
 use mm_frame::{Book, LabelId, RuleFault, Taken};
 use mm_rules::{AskRule, CheckFault, Progress, Rule, Stop, refusal};
-use mm_text::{File, Kind, Seed, Statement, Statements};
+use mm_text::Statements;
 use mm_verdict::{beginning, has_label, load, make_room, next};
 use std::alloc::{AllocError, Global};
 

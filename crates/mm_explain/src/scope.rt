@@ -2,7 +2,7 @@
 
 ghost use Rattle.std.specs.Prelude.{◌≡◌, ◌<◌, ◌++◌, ◌∷◌, [], ℕ, List, length, map, IfOk, OnOk};
 ghost use Rattle.mm_text.specs.Files.{plain_file};
-ghost use Rattle.mm_text.specs.Statement.{PlainStatement, plain_statement};
+ghost use Rattle.mm_base.specs.Statement.{PlainStatement, plain_statement};
 ghost use Rattle.mm_facts.specs.Explained.{Detail, details_text};
 ghost use Rattle.mm_explain.specs.HypothesisPlaces.{AreScopeFacts};
 ghost use Rattle.mm_explain.specs.Mirror.Breaches.{Site};
@@ -10,8 +10,8 @@ ghost use Rattle.mm_explain.specs.Mirror.Standing.{IsScope};
 ghost use Rattle.mm_rules.specs.Verdict.{CanBeRead};
 
 use crate::breach::{read_next, reader};
+use mm_base::{File, Kind, Seed, Statement, Token};
 use mm_facts::{push_block_end, push_stated_at};
-use mm_text::{File, Kind, Seed, Statement, Token};
 use mm_verdict::has_label;
 use std::alloc::{AllocError, Global};
 

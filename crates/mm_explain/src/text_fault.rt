@@ -3,9 +3,9 @@
 ghost use Rattle.std.specs.Prelude.{◌≡◌, ◌++◌, List, [], map, not, true, option_map, Option, Some};
 ghost use Rattle.std.specs.Prelude.{IfOk, OnOk, if◌then◌else◌};
 ghost use Rattle.std.specs.List.{prefix_len};
-ghost use Rattle.mm_text.specs.Token.{plain_token, is_space as is_white_space};
-ghost use Rattle.mm_text.specs.Statement.{PlainStatement, plain_statement};
-ghost use Rattle.mm_text.specs.Blocks.{is_closing};
+ghost use Rattle.mm_base.specs.Token.{plain_token, is_space as is_white_space};
+ghost use Rattle.mm_base.specs.Statement.{PlainStatement, plain_statement};
+ghost use Rattle.mm_base.specs.Blocks.{is_closing};
 ghost use Rattle.mm_text.specs.Files.{plain_file};
 ghost use Rattle.mm_text.specs.Reading.{PlainFault, Reads};
 ghost use Rattle.mm_rules.specs.Answer.{plain_refusal};
@@ -22,9 +22,10 @@ ghost use Rattle.mm_rules.specs.Verdict.{CanBeRead, text_refusal};
 
 use crate::breach::reader;
 use crate::placed::{push_begun, push_last_closed};
+use mm_base::{File, Kind, Seed, Statement, Token};
 use mm_facts::push_token;
 use mm_rules::{Refusal, Rule, bytes_before, bytes_from, bytes_of};
-use mm_text::{File, Kind, Seed, Statement, Statements, TextFault, TextRule, Token};
+use mm_text::{Statements, TextFault, TextRule};
 use mm_verdict::is_space;
 use std::alloc::{AllocError, Global};
 

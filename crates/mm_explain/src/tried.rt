@@ -2,7 +2,8 @@
 
 ghost use Rattle.std.specs.Prelude.{◌≡◌, ◌≤◌, ℕ, List, length, take, IfOk, IfErr};
 ghost use Rattle.std.specs.List.{sum_by};
-ghost use Rattle.mm_text.specs.Files.{most_bytes, plain_file};
+ghost use Rattle.mm_base.specs.MostBytes.{most_bytes};
+ghost use Rattle.mm_text.specs.Files.{plain_file};
 ghost use Rattle.mm_code.specs.Layout.{texts};
 ghost use Rattle.mm_code.specs.Words.{tokens_in};
 ghost use Rattle.mm_frame.specs.Sentence.{Sentence};
@@ -22,12 +23,12 @@ ghost use Rattle.mm_rules.specs.Status.{number_of};
 ghost use Rattle.mm_explain.specs.Why.{IsTextPlace};
 
 use crate::why::push_head_at;
+use mm_base::File;
 use mm_facts::{Cause, cause_of, place_among, push_cause, push_left_over};
 use mm_frame::{Book, LabelId};
 use mm_proof::{Parsed, Proved, Steps, verify};
 use mm_rules::{AskRule, Rule, Status};
 use mm_step::{Flat, Profile, ProofFault, ProofRule};
-use mm_text::File;
 use mm_verdict::{Reply, ask_reply, handed_tokens, placed_tokens, refused_text, text_status};
 use std::alloc::{AllocError, Global};
 

@@ -2,10 +2,10 @@
 
 ghost use Rattle.std.specs.Prelude.{◌≡◌, ◌<◌, ◌-◌, ◌++◌, List, ℕ, [], ◌∷◌, map, length, true};
 ghost use Rattle.std.specs.Prelude.{OnOk, IfOk, IfErr, Option, Some, drop, take, option_map};
-ghost use Rattle.mm_text.specs.declared.statement.Kind.TheVariants.{Provable};
-ghost use Rattle.mm_text.specs.Statement.{PlainStatement, plain_statement, HasForm};
+ghost use Rattle.mm_base.specs.declared.statement.Kind.TheVariants.{Provable};
+ghost use Rattle.mm_base.specs.Statement.{PlainStatement, plain_statement, HasForm};
 ghost use Rattle.mm_text.specs.Reading.{PlainFault, Reads};
-ghost use Rattle.mm_text.specs.Token.{plain_token};
+ghost use Rattle.mm_base.specs.Token.{plain_token};
 ghost use Rattle.mm_text.specs.Files.{plain_file};
 ghost use Rattle.mm_frame.specs.Sentence.{Sentence, sentence_of};
 ghost use Rattle.mm_step.specs.declared.profile.Profile.{Profile};
@@ -31,6 +31,7 @@ ghost use Rattle.mm_rules.specs.declared.rule.Rule.TheVariants.{Proof};
 use crate::hypothesis_places::push_hypothesis_places;
 use crate::last::last_facts;
 use crate::later::{push_later, read_labels};
+use mm_base::{File, Seed, Statement, Token};
 use mm_facts::{Cause, cause_of, fault_place, push_cause};
 use mm_frame::{Book, Found, LabelId};
 use mm_rules::{
@@ -38,7 +39,6 @@ use mm_rules::{
     push_place,
 };
 use mm_step::{Profile, ProofRule};
-use mm_text::{File, Seed, Statement, Token};
 use mm_verdict::{Checked, conclude, first_status, judge_files, proof_of};
 use std::alloc::{AllocError, Global};
 

@@ -10,7 +10,7 @@ use Rattle.std.specs.Prelude.{◌≢◌, drop}
 use Rattle.std.specs.List.{AllZip, AllByRecursion, flat_map}
 use Rattle.std.proofs.lemmas.List.{map-append, take_more}
 use Rattle.std.proofs.lemmas.Grind.{flat_map-append}
-use Rattle.mm_text.proofs.Lists.{all_at, zip_left, zip_push, get_kept, get_pushed}
+use Rattle.mm_base.proofs.Lists.{all_at, zip_left, zip_push, get_kept, get_pushed}
 use Rattle.mm_frame.specs.declared.distinct.DistinctPair.{DistinctPair}
 use Rattle.mm_frame.specs.declared.number.Sym.{Sym}
 use Rattle.mm_step.specs.declared.fault.ProofRule.{ProofRule}

@@ -8,7 +8,7 @@ use Rattle.std.proofs.Math.Seq.{drop-append_seam}
 use Rattle.std.proofs.lemmas.Bool.Decides.{nat_tests}
 use Rattle.std.proofs.lemmas.Grind.{flat_map-append}
 use Rattle.std.proofs.lemmas.Option.{same_Some}
-use Rattle.mm_text.proofs.Lists.{get_kept, get_pushed, pushed_cases}
+use Rattle.mm_base.proofs.Lists.{get_kept, get_pushed, pushed_cases}
 use Rattle.std.proofs.lemmas.List.{map-append}
 use Rattle.mm_frame.specs.Sentence.{Sentence, IsLabelled}
 use Rattle.mm_frame.specs.Numbers.{symbols_of, AreNumbers}

@@ -8,9 +8,9 @@ use Rattle.std.proofs.lemmas.List.{length-append}
 use Rattle.std.proofs.lemmas.List.Sums.{get_or-le-sum_by}
 use Rattle.std.proofs.lemmas.Option.{slice_get_within, slice_get-map, slice_get-get_or, none-some}
 use Rattle.std.proofs.lemmas.Option.{get_or_from_slice_get}
-use Rattle.mm_text.specs.declared.token.Token.{Token}
-use Rattle.mm_text.specs.Token.{PlainToken, plain_token}
-use Rattle.mm_text.specs.Files.{most_bytes}
+use Rattle.mm_base.specs.declared.token.Token.{Token}
+use Rattle.mm_base.specs.Token.{PlainToken, plain_token}
+use Rattle.mm_base.specs.MostBytes.{most_bytes}
 use Rattle.mm_code.specs.Words.{texts_of}
 use Rattle.mm_frame.specs.Sentence.{Sentence}
 use Rattle.mm_step.specs.declared.fault.ProofRule.{ProofRule}

@@ -23,14 +23,14 @@ use Rattle.mm_facts.specs.Explained.{entry_counts, AreStepDetails, step_label}
 use Rattle.std.proofs.Common.{length-append, cond}
 use Rattle.std.proofs.lemmas.List.Sums.{sum_by-cons}
 use Rattle.std.proofs.lemmas.Grind.{flat_map-append}
-use Rattle.mm_text.proofs.Lists.{zip_length}
+use Rattle.mm_base.proofs.Lists.{zip_length}
 use Rattle.mm_frame.specs.Sentence.{IsAssertion}
 use Rattle.mm_frame.specs.Rules.{AllMeant}
 use Rattle.mm_frame.specs.Numbers.{IsNumbered}
 use Rattle.mm_frame.specs.Frame.{AreMandatory}
 use Rattle.mm_frame.specs.FrameIndex.{AreHypotheses}
 use Rattle.mm_step.proofs.ProofSteps.OneStep.{one_label}
-use Rattle.mm_text.proofs.Lists.{get_from_take}
+use Rattle.mm_base.proofs.Lists.{get_from_take}
 use Rattle.mm_step.specs.Tree.{Trees, none, tree, Names, DeriveAll}
 use Rattle.mm_step.specs.Moves.{Makes, steps_in, is_step}
 use Rattle.mm_listing.specs.Listing.{TellsStep}

@@ -2,7 +2,7 @@
 -- numbers are labels of earlier statements.
 use Rattle.std.proofs.Common.{◌≡◌, ℕ, ◌<◌, List, take, slice_get, arith, inl, inr, ◌⊎◌}
 use Rattle.std.proofs.Common.{Option, Some, IfSome, Bor}
-use Rattle.mm_text.proofs.Lists.{get_in_front}
+use Rattle.mm_base.proofs.Lists.{get_in_front}
 use Rattle.mm_frame.specs.Sentence.{Sentence, SomeSentence, IsLabelled}
 use Rattle.mm_frame.specs.Numbers.{labelled_sentences}
 use Rattle.mm_frame.proofs.Names.LabelNumbers.{numbered_get, numbered_some, numbered_within}

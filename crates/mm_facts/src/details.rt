@@ -3,7 +3,7 @@
 ghost use Rattle.std.specs.Prelude.{◌≡◌, ◌≤◌, ◌+◌, ◌++◌, ℕ, List, length, map, take, slice_get};
 ghost use Rattle.std.specs.Prelude.{OnOk, IfOk, IfSome, Some, true, ◌⊎◌};
 ghost use Rattle.std.specs.List.{sum_by};
-ghost use Rattle.mm_text.specs.Files.{most_bytes};
+ghost use Rattle.mm_base.specs.MostBytes.{most_bytes};
 ghost use Rattle.mm_code.specs.Layout.{texts};
 ghost use Rattle.mm_frame.specs.Sentence.{Sentence, SomeSentence, IsLabelled};
 ghost use Rattle.mm_frame.specs.Form.{IsSound};

@@ -2,9 +2,9 @@
 
 ghost use Rattle.std.specs.Prelude.{◌≡◌, ◌≤◌, ◌<◌, ℕ, Bool, List, length, map, take};
 ghost use Rattle.std.specs.List.{sum_by};
-ghost use Rattle.mm_text.specs.Files.{most_bytes};
-ghost use Rattle.mm_text.specs.Token.{plain_token};
-ghost use Rattle.mm_text.specs.Statement.{plain_statement};
+ghost use Rattle.mm_base.specs.MostBytes.{most_bytes};
+ghost use Rattle.mm_base.specs.Token.{plain_token};
+ghost use Rattle.mm_base.specs.Statement.{plain_statement};
 ghost use Rattle.mm_code.specs.Layout.{texts};
 ghost use Rattle.mm_code.specs.Words.{texts_of};
 ghost use Rattle.mm_frame.specs.Sentence.{Sentence, sentence_of};
@@ -18,9 +18,9 @@ ghost use Rattle.mm_rules.specs.Verdict.{proof_of};
 ghost use Rattle.mm_facts.specs.Why.{IsPosition, IsStopPlace, IsPlaceAmong, IsFaultPlace};
 
 use crate::details::Cause;
+use mm_base::{Statement, Token};
 use mm_listing::{Halt, HaltAt};
 use mm_places::move_place;
-use mm_text::{Statement, Token};
 
 /// The position of a byte of one of the tokens.
 fn position_of(placed: &[Token], place: (usize, usize)) -> usize

@@ -4,7 +4,7 @@ ghost use Rattle.std.specs.Prelude.{◌≡◌, ◌≢◌, ◌<◌, ◌++◌, ◌
 ghost use Rattle.std.specs.Prelude.{Some, None, IfSome, slice_get, map};
 ghost use Rattle.std.specs.List.{AllByRecursion};
 ghost use Rattle.mm_text.specs.Files.{plain_file};
-ghost use Rattle.mm_text.specs.Token.{plain_token};
+ghost use Rattle.mm_base.specs.Token.{plain_token};
 ghost use Rattle.mm_frame.specs.Numbers.{symbols_of};
 ghost use Rattle.mm_step.specs.Stores.{numbers_in};
 ghost use Rattle.mm_facts.specs.Explained.{detail_text, expression_line, difference_line};
@@ -19,9 +19,9 @@ ghost use Rattle.mm_facts.specs.MeaningFacts.{met_as};
 ghost use Rattle.mm_rules.specs.Answer.{labels_at};
 ghost use Rattle.mm_rules.specs.Places.{place_text, token_place};
 
+use mm_base::{File, Token};
 use mm_frame::{Book, MeaningRule, Sym};
 use mm_rules::{Place, place_of, push_decimal, push_place, push_symbols};
-use mm_text::{File, Token};
 use std::alloc::AllocError;
 
 /// A word between two others.

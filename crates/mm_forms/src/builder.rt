@@ -1,7 +1,7 @@
 //! What is built from the moves of a proof, one after the other.
 
 ghost use Rattle.std.specs.Prelude.{◌≡◌, ◌<◌, ◌≤◌, ℕ, List, [], All, take, length, IfOk, IfErr};
-ghost use Rattle.mm_text.specs.Files.{most_bytes};
+ghost use Rattle.mm_base.specs.MostBytes.{most_bytes};
 ghost use Rattle.mm_code.specs.Letters.{HasSpelling};
 ghost use Rattle.mm_frame.specs.Form.{IsSound};
 ghost use Rattle.mm_step.specs.Tree.{Trees, tree, none, spelling, MayStandOver, roots};

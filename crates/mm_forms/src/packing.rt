@@ -3,7 +3,7 @@
 
 ghost use Rattle.std.specs.Prelude.{◌≡◌, ◌+◌, ◌*◌, ◌≤◌, ◌<◌, ◌↔◌, ◌++◌, List, [], length, take};
 ghost use Rattle.std.specs.Prelude.{Contains, All, IfOk, OnOk, false};
-ghost use Rattle.mm_text.specs.Files.{most_bytes};
+ghost use Rattle.mm_base.specs.MostBytes.{most_bytes};
 ghost use Rattle.mm_code.specs.declared.code.Code.{Code};
 ghost use Rattle.mm_code.specs.Letters.{HasSpelling, IsExact, largest};
 ghost use Rattle.mm_forms.specs.declared.subtrees.Subtree.{Subtree};
@@ -26,10 +26,10 @@ use crate::builder::build;
 use crate::chosen::choose_steps;
 use crate::sharing::{SharedStep, SharedSteps};
 use crate::subtree_set::SubtreeSet;
+use mm_base::Seed;
 use mm_code::Code;
 use mm_frame::{Book, Hypothesis, LabelId};
 use mm_proof::{LabelSet, Steps};
-use mm_text::Seed;
 use std::alloc::{AllocError, Global};
 
 /// A compressed proof, by numbers.

@@ -6,8 +6,8 @@ ghost use Rattle.mm_forms.specs.Mirror.CodeSharing.{Shares, IsRepeat};
 use crate::builder::Builder;
 use crate::subtree_set::SubtreeSet;
 use crate::subtrees::{Subtree, Subtrees};
+use mm_base::Seed;
 use mm_frame::LabelId;
-use mm_text::Seed;
 use std::alloc::{AllocError, Global};
 
 /// A step of a fully shared proof.

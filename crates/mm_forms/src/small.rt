@@ -6,7 +6,7 @@ ghost use Rattle.std.specs.Prelude.{Some, None, All, IfOk, false, slice_get, sli
 ghost use Rattle.std.specs.List.{AllZip};
 ghost use Rattle.std.specs.List.Sorted.{IsPermutation};
 ghost use Rattle.mm_code.specs.declared.code.Code.{Code};
-ghost use Rattle.mm_text.specs.Files.{most_bytes};
+ghost use Rattle.mm_base.specs.MostBytes.{most_bytes};
 ghost use Rattle.mm_code.specs.Letters.{HasSpelling, IsExact, largest};
 ghost use Rattle.mm_code.specs.LetterCount.{letter_count as letters_in};
 ghost use Rattle.mm_forms.specs.OneTree.{MakeOneTree};

@@ -6,7 +6,7 @@ ghost use Rattle.mm_forms.specs.Mirror.CodeSharing.{Adds};
 
 use crate::subtrees::Subtree;
 use indexmap::IndexSet;
-use mm_text::Seed;
+use mm_base::Seed;
 use std::alloc::{AllocError, Global};
 use std::marker::Model;
 

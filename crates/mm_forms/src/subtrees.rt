@@ -9,8 +9,8 @@ ghost use Rattle.mm_forms.specs.declared.subtrees.Subtree.{Subtree};
 
 use crate::builder::Builder;
 use indexmap::IndexSet;
+use mm_base::Seed;
 use mm_frame::LabelId;
-use mm_text::Seed;
 use std::alloc::{AllocError, Global};
 use std::marker::Model;
 

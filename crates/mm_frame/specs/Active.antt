@@ -1,8 +1,8 @@
 -- What is active at an index (the Metamath book, section 4.2.8, on scopes).
 use Rattle.std.specs.Prelude.{◌≡◌, ℕ, suc, ◌<◌, ◌≤◌, List, length, take, drop, count_by, slice_get}
 use Rattle.std.specs.Prelude.{Some, ◌⊎◌}
-use Rattle.mm_text.specs.declared.statement.Kind.TheVariants.{Constants, Variables, Opening}
-use Rattle.mm_text.specs.Blocks.{is_opening, is_closing}
+use Rattle.mm_base.specs.declared.statement.Kind.TheVariants.{Constants, Variables, Opening}
+use Rattle.mm_base.specs.Blocks.{is_opening, is_closing}
 use Rattle.mm_frame.specs.Sentence.{Sentence, SomeSentence, Declares, Types}
 
 -- how many `${`, and how many `$}`

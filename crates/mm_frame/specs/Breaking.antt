@@ -1,7 +1,7 @@
 -- Which symbol of a statement breaks a rule of meaning (the Metamath book, sections 4.2.1 to
 -- 4.2.8).
 use Rattle.std.specs.Prelude.{◌≡◌, ℕ, ◌<◌, List, Contains, take, slice_get, ◌⊎◌, Option, Some, None}
-use Rattle.mm_text.specs.declared.statement.Kind.TheVariants.{Variables}
+use Rattle.mm_base.specs.declared.statement.Kind.TheVariants.{Variables}
 use Rattle.mm_frame.specs.declared.rule.MeaningRule.{MeaningRule}
 use Rattle.mm_frame.specs.declared.rule.MeaningRule.TheVariants.{M1, M2, M3, M4, M5, M6, M7, M8, M9}
 use Rattle.mm_frame.specs.declared.rule.MeaningRule.TheVariants.{M10, M11, M12, M13, M14, M15}

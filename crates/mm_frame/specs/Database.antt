@@ -1,6 +1,6 @@
 -- What a book holds.
 use Rattle.std.specs.Prelude.{ℕ, List}
-use Rattle.mm_text.specs.declared.seed.Seed.{Seed}
+use Rattle.mm_base.specs.declared.seed.Seed.{Seed}
 use Rattle.mm_frame.specs.Sentence.{Sentence}
 
 -- the statements that were taken, in their order, how many bytes their tokens have, and the seed

@@ -1,9 +1,9 @@
 -- What the grammar says of statements, said of what they say (the Metamath book, section 4.2).
 use Rattle.std.specs.Prelude.{◌≡◌, ℕ, List, length, slice_get, Option, Some, None}
-use Rattle.mm_text.specs.declared.statement.Kind.{Kind}
-use Rattle.mm_text.specs.declared.statement.Kind.TheVariants.{Floating, Essential, Axiom, Provable}
-use Rattle.mm_text.specs.Token.{IsLabel}
-use Rattle.mm_text.specs.Statement.{FitsCount}
+use Rattle.mm_base.specs.declared.statement.Kind.{Kind}
+use Rattle.mm_base.specs.declared.statement.Kind.TheVariants.{Floating, Essential, Axiom, Provable}
+use Rattle.mm_base.specs.Token.{IsLabel}
+use Rattle.mm_base.specs.Statement.{FitsCount}
 use Rattle.mm_frame.specs.Sentence.{Sentence}
 use Rattle.mm_frame.specs.Rules.{AllMeant}
 

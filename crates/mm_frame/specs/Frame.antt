@@ -1,7 +1,7 @@
 -- The frame of an assertion (the Metamath book, section 4.2.7): its mandatory variables, hypotheses
 -- and distinct pairs.
 use Rattle.std.specs.Prelude.{◌≡◌, ◌≢◌, ℕ, ◌+◌, List, [], ◌∷◌, Contains, ◌⊎◌}
-use Rattle.mm_text.specs.declared.statement.Kind.TheVariants.{Distinct, Essential}
+use Rattle.mm_base.specs.declared.statement.Kind.TheVariants.{Distinct, Essential}
 use Rattle.mm_frame.specs.Sentence.{Sentence, Types}
 use Rattle.mm_frame.specs.Active.{IsActive, SomeActive, IsVariable}
 

@@ -2,7 +2,7 @@
 -- 4.2.7).
 use Rattle.std.specs.Prelude.{◌≡◌, ℕ, List, map, take, slice_get, Option, Some, None, Contains}
 use Rattle.std.specs.Prelude.{◌⊎◌}
-use Rattle.mm_text.specs.declared.statement.Kind.TheVariants.{Essential}
+use Rattle.mm_base.specs.declared.statement.Kind.TheVariants.{Essential}
 use Rattle.mm_frame.specs.declared.number.Sym.{Sym}
 use Rattle.mm_frame.specs.declared.hypothesis.Hypothesis.{Hypothesis}
 use Rattle.mm_frame.specs.Sentence.{Sentence, Types}

@@ -1,11 +1,11 @@
 -- What statements say, without where they stand.
 use Rattle.std.specs.Prelude.{◌≡◌, ℕ, ◌<◌, List, [], ◌∷◌, map, slice_get, Contains, Option, Some}
 use Rattle.std.specs.Prelude.{option_map, ◌⊎◌}
-use Rattle.mm_text.specs.declared.statement.Kind.{Kind}
-use Rattle.mm_text.specs.declared.statement.Kind.TheVariants.{Distinct, Floating, Essential, Axiom}
-use Rattle.mm_text.specs.declared.statement.Kind.TheVariants.{Provable}
-use Rattle.mm_text.specs.declared.statement.Statement.{Statement}
-use Rattle.mm_text.specs.Statement.{PlainStatement, plain_statement}
+use Rattle.mm_base.specs.declared.statement.Kind.{Kind}
+use Rattle.mm_base.specs.declared.statement.Kind.TheVariants.{Distinct, Floating, Essential, Axiom}
+use Rattle.mm_base.specs.declared.statement.Kind.TheVariants.{Provable}
+use Rattle.mm_base.specs.declared.statement.Statement.{Statement}
+use Rattle.mm_base.specs.Statement.{PlainStatement, plain_statement}
 
 -- a statement's kind, its label and its symbols
 pub record Sentence : Type 0 where

@@ -1,7 +1,7 @@
 -- What a statement is taken as.
 use Rattle.std.specs.Prelude.{◌≡◌, List, length}
-use Rattle.mm_text.specs.declared.statement.Kind.{Kind}
-use Rattle.mm_text.specs.declared.statement.Kind.TheVariants as kinds
+use Rattle.mm_base.specs.declared.statement.Kind.{Kind}
+use Rattle.mm_base.specs.declared.statement.Kind.TheVariants as kinds
 use Rattle.mm_frame.specs.declared.answer.Taken.{Taken}
 use Rattle.mm_frame.specs.declared.answer.Taken.TheVariants.{Opened, Closed, Declared, Hypothesis}
 use Rattle.mm_frame.specs.declared.answer.Taken.TheVariants.{Assertion}

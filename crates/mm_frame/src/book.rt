@@ -3,9 +3,9 @@
 ghost use Rattle.std.specs.Prelude.{◌≡◌, ◌↔◌, ℕ, ◌+◌, ◌-◌, ◌<◌, ◌≤◌, List, [], ◌∷◌, ◌++◌, IsTrue};
 ghost use Rattle.std.specs.Prelude.{IfOk, IfErr, OnErr, Err, Some, length, map, take, slice_get};
 ghost use Rattle.std.specs.Prelude.{sum_by, vec_len};
-ghost use Rattle.mm_text.specs.declared.statement.Kind.TheVariants.{Closing};
-ghost use Rattle.mm_text.specs.Statement.{plain_statement, HasForm, bytes_in};
-ghost use Rattle.mm_text.specs.Files.{most_bytes};
+ghost use Rattle.mm_base.specs.declared.statement.Kind.TheVariants.{Closing};
+ghost use Rattle.mm_base.specs.Statement.{plain_statement, HasForm, bytes_in};
+ghost use Rattle.mm_base.specs.MostBytes.{most_bytes};
 ghost use Rattle.mm_frame.specs.declared.rule.MeaningRule.{MeaningRule};
 ghost use Rattle.mm_frame.specs.declared.answer.RuleFault.TheVariants.{Rule, Memory};
 ghost use Rattle.mm_frame.specs.Sentence.{Sentence, sentence_in, IsLabelled, IsAssertion};
@@ -39,7 +39,7 @@ use crate::reads::{
 use crate::rule::MeaningRule;
 use crate::scheme::Scheme;
 use crate::tables::Tables;
-use mm_text::{Seed, Statement, Token};
+use mm_base::{Seed, Statement, Token};
 use std::alloc::{AllocError, Global};
 use std::marker::Model;
 

@@ -13,7 +13,7 @@ use crate::name_table::Names;
 use crate::rule::MeaningRule;
 use crate::sought::{is_active_number, number_of};
 use crate::tables::Tables;
-use mm_text::{Seed, Statement};
+use mm_base::{Seed, Statement};
 use std::alloc::AllocError;
 
 // Whether an active `$c` or `$v` declares the symbol.

@@ -25,7 +25,7 @@ use crate::sought::{
     is_active_number, is_constant_number, is_typed_number, is_variable_number, look_up,
 };
 use crate::tables::Tables;
-use mm_text::{Kind, Seed, Statement, Token};
+use mm_base::{Kind, Seed, Statement, Token};
 use std::alloc::{AllocError, Global};
 
 // A `$c` stands in a block.

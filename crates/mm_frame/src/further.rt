@@ -1,7 +1,7 @@
 //! The `$d` that say more than the mandatory pairs of an assertion.
 
 ghost use Rattle.std.specs.Prelude.{◌≡◌, ◌↔◌, ◌<◌, ◌≤◌, IfOk, IsTrue, Some, length, slice_get};
-ghost use Rattle.mm_text.specs.declared.statement.Kind.TheVariants.{Distinct};
+ghost use Rattle.mm_base.specs.declared.statement.Kind.TheVariants.{Distinct};
 ghost use Rattle.mm_frame.specs.Sentence.{Sentence};
 ghost use Rattle.mm_frame.specs.Pieces.{variables_of};
 ghost use Rattle.mm_frame.specs.Mirror.Further.{AreFoundFurther, HasOther, SaysMore};
@@ -13,7 +13,7 @@ use crate::lists::at as entry_at;
 use crate::noted::NotedIndices;
 use crate::number::Sym;
 use crate::tables::Tables;
-use mm_text::Kind;
+use mm_base::Kind;
 use std::alloc::{AllocError, Global};
 
 // Whether one of the symbols has no `$f` among the hypotheses, of which the indices are noted.

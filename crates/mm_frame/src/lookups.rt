@@ -1,7 +1,7 @@
 //! What the statements before say of a name.
 
 ghost use Rattle.std.specs.Prelude.{◌≢◌, ◌↔◌, ℕ, List, IsTrue, MatchOption};
-ghost use Rattle.mm_text.specs.declared.statement.Kind.TheVariants.{Variables};
+ghost use Rattle.mm_base.specs.declared.statement.Kind.TheVariants.{Variables};
 ghost use Rattle.mm_frame.specs.Sentence.{SomeSentence, IsLabelled, Declares, Types};
 ghost use Rattle.mm_frame.specs.Active.{SomeActive, IsConstant, IsVariable, IsTyped};
 ghost use Rattle.mm_frame.specs.Mirror.Layout.{AreTables, statements_of, IsDeclared, GivesType};

@@ -8,7 +8,7 @@ ghost use Rattle.mm_frame.specs.Numbers.{with_name};
 use crate::guesses::Guesses;
 use crate::name::Name;
 use indexmap::IndexSet;
-use mm_text::Seed;
+use mm_base::Seed;
 use std::alloc::{AllocError, Global};
 use std::marker::Model;
 

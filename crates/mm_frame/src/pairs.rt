@@ -12,7 +12,7 @@ ghost use Rattle.mm_frame.specs.Mirror.Stated.{near_index, newest_of, is_same_ke
 use crate::lists::{at, reserve_numbered};
 use crate::wide::WideDistinct;
 use indexmap::IndexMap;
-use mm_text::Seed;
+use mm_base::Seed;
 use std::alloc::{AllocError, Global};
 use std::marker::Model;
 

@@ -1,8 +1,8 @@
 //! What a book's lists hold under a label, or under its number.
 
 ghost use Rattle.std.specs.Prelude.{◌≡◌, ◌↔◌, ℕ, ◌<◌, ◌≤◌, List, IsTrue, Some, length, map, take};
-ghost use Rattle.mm_text.specs.declared.statement.Kind.{Kind};
-ghost use Rattle.mm_text.specs.Files.{most_bytes};
+ghost use Rattle.mm_base.specs.declared.statement.Kind.{Kind};
+ghost use Rattle.mm_base.specs.MostBytes.{most_bytes};
 ghost use Rattle.mm_frame.specs.Sentence.{Sentence, IsLabelled, IsAssertion};
 ghost use Rattle.mm_frame.specs.Active.{IsActive};
 ghost use Rattle.mm_frame.specs.Form.{HasItsLabel};
@@ -22,7 +22,7 @@ use crate::number::{LabelId, LabelKind, Sym};
 use crate::part::part_of;
 use crate::scheme::Scheme;
 use crate::tables::Tables;
-use mm_text::Kind;
+use mm_base::Kind;
 
 // Whether some labelled statement has the number.
 pub(crate) fn is_label(tables: &Tables, id: LabelId) -> bool

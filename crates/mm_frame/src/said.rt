@@ -3,7 +3,7 @@
 ghost use Rattle.std.specs.Prelude.{◌≡◌, ◌↔◌, ℕ, IsTrue, MatchOption, List};
 ghost use Rattle.mm_frame.specs.Sentence.{sentence_in, IsUse, IsStated, IsLabelled, Types};
 
-use mm_text::{Kind, Statement};
+use mm_base::{Kind, Statement};
 
 // Whether statements of this kind state an expression.
 pub(crate) fn is_stated(kind: Kind) -> bool

@@ -2,13 +2,13 @@
 
 ghost use Rattle.std.specs.Prelude.{◌≡◌, ◌↔◌, ℕ, suc, ◌-◌, ◌<◌, ◌≤◌, List, [], ◌∷◌, ◌++◌, length};
 ghost use Rattle.std.specs.Prelude.{take, slice_get, Some, IsTrue, IfOk, OnOk};
-ghost use Rattle.mm_text.specs.declared.statement.Kind.TheVariants.{Opening, Closing};
+ghost use Rattle.mm_base.specs.declared.statement.Kind.TheVariants.{Opening, Closing};
 ghost use Rattle.mm_frame.specs.Sentence.{Sentence};
 ghost use Rattle.mm_frame.specs.Active.{IsOpen, IsActive, open_marks, close_marks};
 ghost use Rattle.mm_frame.specs.Mirror.ScopesOf.{HaveScopes, CanTake, HasRoom, HaveSameLists};
 
 use crate::lists::{at as at_index, put, reserve_numbered, write};
-use mm_text::Kind;
+use mm_base::Kind;
 use std::alloc::{AllocError, Global};
 
 /// The end of a block that is open.

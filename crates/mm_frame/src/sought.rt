@@ -10,7 +10,7 @@ use crate::guesses::Guesses;
 use crate::number::Sym;
 use crate::said::is_use;
 use crate::tables::Tables;
-use mm_text::{Statement, Token};
+use mm_base::{Statement, Token};
 use std::alloc::AllocError;
 
 /// The number of a symbol. One that isn't declared has the next free number, which no symbol has.

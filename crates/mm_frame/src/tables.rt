@@ -15,7 +15,7 @@ use crate::pairs::Pairs;
 use crate::part::{Part, part_of};
 use crate::piece::ShortPiece;
 use crate::scopes::Scopes;
-use mm_text::{Kind, Seed};
+use mm_base::{Kind, Seed};
 use std::alloc::{AllocError, Global};
 
 /// A statement.
@@ -106,7 +106,7 @@ pub struct Tables<'a> {
 impl<'a> Tables<'a> {
     ghost use Rattle.std.specs.Prelude.{◌≡◌, ◌↔◌, ◌<◌, ◌≤◌, ℕ, [], IfOk, IsTrue, List, MatchOption};
     ghost use Rattle.std.specs.Prelude.{Some, length, map, slice_get};
-    ghost use Rattle.mm_text.specs.declared.statement.Kind.TheVariants.{Floating};
+    ghost use Rattle.mm_base.specs.declared.statement.Kind.TheVariants.{Floating};
     ghost use Rattle.mm_frame.specs.Sentence.{Sentence, Types, IsHypothesis};
     ghost use Rattle.mm_frame.specs.Numbers.{AreNumbers, IsNumberOf};
     ghost use Rattle.mm_frame.specs.Active.{IsActive};

@@ -3,8 +3,8 @@
 ghost use Rattle.std.specs.Prelude.{◌≡◌, ◌+◌, ◌<◌, ◌≤◌, ◌⊎◌, length, map, slice_get, slice_set};
 ghost use Rattle.std.specs.Prelude.{vec_len, vec_capacity, Contains, Some, None, [], ◌∷◌, ◌++◌};
 ghost use Rattle.std.specs.Prelude.{IfOk, OnErr, OnOk, ℕ, suc};
-ghost use Rattle.mm_text.specs.Statement.{plain_statement, HasForm, bytes_in};
-ghost use Rattle.mm_text.specs.Files.{most_bytes};
+ghost use Rattle.mm_base.specs.Statement.{plain_statement, HasForm, bytes_in};
+ghost use Rattle.mm_base.specs.MostBytes.{most_bytes};
 ghost use Rattle.mm_frame.specs.declared.tables.SymbolInfo.{SymbolInfo};
 ghost use Rattle.mm_frame.specs.declared.answer.Taken.TheVariants.{Declared};
 ghost use Rattle.mm_frame.specs.Sentence.{sentence_in};
@@ -17,7 +17,7 @@ ghost use Rattle.mm_frame.specs.Mirror.Declaring.{TakesSymbols};
 use crate::answer::Taken;
 use crate::number::Sym;
 use crate::tables::{SymbolInfo, Tables};
-use mm_text::{Kind, Statement, Token};
+use mm_base::{Kind, Statement, Token};
 use std::alloc::AllocError;
 
 impl<'a> Tables<'a> {

@@ -2,8 +2,8 @@
 //! many variables has too many pairs, and is kept as it is.
 
 ghost use Rattle.std.specs.Prelude.{◌≡◌, ◌+◌, ◌<◌, ◌≤◌, ◌++◌, None, IfOk, OnErr, OnOk, length, map};
-ghost use Rattle.mm_text.specs.declared.statement.Kind.TheVariants.{Distinct};
-ghost use Rattle.mm_text.specs.Files.{most_bytes};
+ghost use Rattle.mm_base.specs.declared.statement.Kind.TheVariants.{Distinct};
+ghost use Rattle.mm_base.specs.MostBytes.{most_bytes};
 ghost use Rattle.mm_frame.specs.Sentence.{Sentence};
 ghost use Rattle.mm_frame.specs.Rules.{IsMeant};
 ghost use Rattle.mm_frame.specs.Numbers.{AreNumbers};
@@ -21,7 +21,7 @@ use crate::number::Sym;
 use crate::pairs::{Pairs, in_order};
 use crate::tables::Tables;
 use crate::wide::{WideDistinct, numbers_in_order};
-use mm_text::Kind;
+use mm_base::Kind;
 use std::alloc::AllocError;
 
 // A `$d` of so many variables at most is kept as its pairs, which are found sooner. Databases that

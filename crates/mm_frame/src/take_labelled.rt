@@ -2,8 +2,8 @@
 
 ghost use Rattle.std.specs.Prelude.{◌≡◌, ◌+◌, ◌<◌, ◌≤◌, [], ◌∷◌, ◌++◌, Some, IfOk, OnErr};
 ghost use Rattle.std.specs.Prelude.{length, map, set, slice_get, vec_len, vec_capacity};
-ghost use Rattle.mm_text.specs.declared.statement.Kind.TheVariants.{Floating, Essential};
-ghost use Rattle.mm_text.specs.Files.{most_bytes};
+ghost use Rattle.mm_base.specs.declared.statement.Kind.TheVariants.{Floating, Essential};
+ghost use Rattle.mm_base.specs.MostBytes.{most_bytes};
 ghost use Rattle.mm_frame.specs.declared.tables.SymbolInfo.{SymbolInfo};
 ghost use Rattle.mm_frame.specs.Sentence.{Sentence, IsAssertion};
 ghost use Rattle.mm_frame.specs.Rules.{IsMeant};
@@ -23,7 +23,7 @@ use crate::number::{LabelId, Sym};
 use crate::part::{NO_PART, Part};
 use crate::pattern::add_patterns;
 use crate::tables::{LabelInfo, SymbolInfo, Tables};
-use mm_text::Kind;
+use mm_base::Kind;
 use std::alloc::AllocError;
 
 // What a hypothesis has of a frame.

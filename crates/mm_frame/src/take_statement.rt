@@ -4,9 +4,9 @@
 ghost use Rattle.std.specs.Prelude.{◌≡◌, ◌↔◌, ◌⊎◌, ℕ, suc, ◌+◌, ◌<◌, ◌≤◌, List, [], length, map};
 ghost use Rattle.std.specs.Prelude.{slice_get, None, Some, IsTrue, IfOk, OnErr, OnOk};
 ghost use Rattle.std.specs.Prelude.{vec_len, vec_capacity};
-ghost use Rattle.mm_text.specs.declared.statement.Kind.TheVariants.{Opening, Closing};
-ghost use Rattle.mm_text.specs.Statement.{plain_statement, HasForm, bytes_in};
-ghost use Rattle.mm_text.specs.Files.{most_bytes};
+ghost use Rattle.mm_base.specs.declared.statement.Kind.TheVariants.{Opening, Closing};
+ghost use Rattle.mm_base.specs.Statement.{plain_statement, HasForm, bytes_in};
+ghost use Rattle.mm_base.specs.MostBytes.{most_bytes};
 ghost use Rattle.mm_frame.specs.Sentence.{Sentence, sentence_in, IsHypothesis, IsAssertion, IsUse};
 ghost use Rattle.mm_frame.specs.Numbers.{AreNumbers};
 ghost use Rattle.mm_frame.specs.Active.{IsActive, open_marks, close_marks};
@@ -28,7 +28,7 @@ use crate::number::{LabelId, Sym};
 use crate::part::Part;
 use crate::scopes::Scopes;
 use crate::tables::{Entry, Tables};
-use mm_text::{Kind, Statement};
+use mm_base::{Kind, Statement};
 use std::alloc::AllocError;
 
 impl<'a> Tables<'a> {

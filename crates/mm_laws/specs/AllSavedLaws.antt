@@ -1,7 +1,7 @@
 -- Laws of a file in which each complete proof is written anew: it changes nothing that is answered.
 use Rattle.std.specs.Prelude.{◌≡◌, ℕ, ◌≤◌, List, take, length, slice_get}
 use Rattle.std.specs.Prelude.{Some, None, ◌⊎◌}
-use Rattle.mm_text.specs.Statement.{PlainStatement}
+use Rattle.mm_base.specs.Statement.{PlainStatement}
 use Rattle.mm_text.specs.Files.{PlainFile}
 use Rattle.mm_text.specs.Replaced.{with_bytes}
 use Rattle.mm_text.specs.Reading.{Reads}

@@ -2,7 +2,7 @@
 -- wasn't replaced is as it was, no theorem rests on more, and the file doesn't grow.
 use Rattle.std.specs.Prelude.{◌≡◌, ◌≤◌, ◌↔◌, ℕ, List, length, take, slice_get, Contains, Bool, Some}
 use Rattle.std.specs.Prelude.{◌⊎◌}
-use Rattle.mm_text.specs.Statement.{PlainStatement}
+use Rattle.mm_base.specs.Statement.{PlainStatement}
 use Rattle.mm_text.specs.Files.{PlainFile}
 use Rattle.mm_text.specs.Replaced.{with_bytes}
 use Rattle.mm_frame.specs.Sentence.{Sentence, sentence_of, IsLabelled}

@@ -1,7 +1,7 @@
 -- Laws of what is asked of one theorem alone.
 use Rattle.std.specs.Prelude.{◌≡◌, ◌⊎◌, ℕ, List, [], codes}
 use Rattle.mm_text.specs.Files.{PlainFile}
-use Rattle.mm_text.specs.Statement.{PlainStatement}
+use Rattle.mm_base.specs.Statement.{PlainStatement}
 use Rattle.mm_code.specs.Words.{tokens_in}
 use Rattle.mm_frame.specs.Sentence.{sentence_of}
 use Rattle.mm_verdict.specs.Alone.{HasProofTokens, IsTheoremAt}

@@ -1,6 +1,6 @@
 -- The law of packed proofs: their texts tell whether proofs are the same.
 use Rattle.std.specs.Prelude.{◌≡◌, ◌↔◌, ℕ, List, take}
-use Rattle.mm_text.specs.Statement.{PlainStatement}
+use Rattle.mm_base.specs.Statement.{PlainStatement}
 use Rattle.mm_text.specs.Files.{PlainFile}
 use Rattle.mm_frame.specs.Sentence.{Sentence}
 use Rattle.mm_step.specs.Tree.{Trees, none, tree}

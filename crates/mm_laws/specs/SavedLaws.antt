@@ -1,7 +1,7 @@
 -- Laws of saving: what it changes, and that it changes nothing else.
 use Rattle.std.specs.Prelude.{◌≡◌, ℕ, ◌≤◌, List, take, length, slice_get, None, Some, ◌↔◌}
 use Rattle.std.specs.Prelude.{◌⊎◌}
-use Rattle.mm_text.specs.Statement.{PlainStatement}
+use Rattle.mm_base.specs.Statement.{PlainStatement}
 use Rattle.mm_text.specs.Files.{PlainFile}
 use Rattle.mm_text.specs.Replaced.{with_bytes}
 use Rattle.mm_text.specs.Reading.{Reads}

@@ -5,7 +5,7 @@ use Rattle.std.specs.Prelude.{◌≡◌, ℕ, ◌+◌, ◌-◌, ◌<◌, List, [
 use Rattle.std.specs.Prelude.{Some}
 use Rattle.std.specs.Prelude.{slice_index_or, Vec, Bool, true, false, IsTrue, Contains, ◌⊎◌, ◌↔◌}
 use Rattle.std.specs.List.{AllZip}
-use Rattle.mm_text.specs.declared.statement.Kind.TheVariants.{Essential}
+use Rattle.mm_base.specs.declared.statement.Kind.TheVariants.{Essential}
 use Rattle.mm_frame.specs.Sentence.{Sentence, IsHypothesis, IsLabelled}
 use Rattle.mm_frame.specs.Active.{SomeActive}
 use Rattle.mm_frame.specs.Frame.{AreThose}

@@ -1,7 +1,7 @@
 //! The proof of a theorem that is read again, and a shorter one that is found.
 
 ghost use Rattle.std.specs.Prelude.{◌≡◌, IfOk, IfErr, IfSome};
-ghost use Rattle.mm_text.specs.Statement.{plain_statement};
+ghost use Rattle.mm_base.specs.Statement.{plain_statement};
 ghost use Rattle.mm_rules.specs.declared.ask.AskFault.TheVariants.{Memory};
 ghost use Rattle.mm_minimize.specs.Mirror.AllShortening.{IsShorterFor};
 ghost use Rattle.mm_verdict.specs.Mirror.Rereading.{IsTheoremIn};
@@ -9,10 +9,10 @@ ghost use Rattle.mm_minimize.specs.Mirror.Shortening.{KnowsDatabase};
 
 use crate::search::Search;
 use crate::shortening::{Shortening, Shorter};
+use mm_base::Statement;
 use mm_frame::LabelId;
 use mm_render::{OwnProof, own_small_proof};
 use mm_rules::AskFault;
-use mm_text::Statement;
 use std::alloc::Global;
 
 /// A theorem's own proof, and a shorter one.

@@ -2,7 +2,7 @@
 
 ghost use Rattle.std.specs.Prelude.{◌≡◌, ◌<◌, List, length, None, IfOk, IfErr};
 ghost use Rattle.mm_rules.specs.declared.ask.AskFault.TheVariants.{Memory};
-ghost use Rattle.mm_text.specs.Statement.{PlainStatement};
+ghost use Rattle.mm_base.specs.Statement.{PlainStatement};
 ghost use Rattle.mm_text.specs.Reading.{Reads};
 ghost use Rattle.mm_rules.specs.Rests.{IsAskFault};
 ghost use Rattle.mm_rules.specs.Answer.{KeepsLabels};

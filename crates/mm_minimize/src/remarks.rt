@@ -3,7 +3,7 @@
 ghost use Rattle.std.specs.Prelude.{◌≡◌, ◌≤◌, ◌<◌, ◌↔◌, List, ℕ, map, length, slice_get, true};
 ghost use Rattle.std.specs.Prelude.{[], IsTrue, IfOk, IfErr, OnOk, Some, None};
 ghost use Rattle.std.specs.List.{AllByRecursion};
-ghost use Rattle.mm_text.specs.Statement.{PlainStatement, plain_statement};
+ghost use Rattle.mm_base.specs.Statement.{PlainStatement, plain_statement};
 ghost use Rattle.mm_text.specs.Files.{PlainFile, plain_file};
 ghost use Rattle.mm_text.specs.Reading.{Reads};
 ghost use Rattle.mm_text.specs.Remarks.{mathbox_at};
@@ -13,8 +13,9 @@ ghost use Rattle.mm_rules.specs.Verdict.{CanBeRead};
 ghost use Rattle.mm_minimize.specs.Mirror.Shortening.{AreRemarks, AreRemarksOf, IsRemarkOf};
 ghost use Rattle.mm_minimize.specs.Mirror.Shortening.{ArePassed, IsPassed};
 
+use mm_base::{File, Seed, Statement};
 use mm_rules::AskFault;
-use mm_text::{File, Seed, Statement, Statements, headings_between, mathbox_at, says_before};
+use mm_text::{Statements, headings_between, mathbox_at, says_before};
 use mm_verdict::{read_on, reader};
 use std::alloc::{AllocError, Global};
 

@@ -4,7 +4,7 @@ ghost use Rattle.std.specs.Prelude.{◌≡◌, ◌↔◌, ◌<◌, ◌≤◌, Li
 ghost use Rattle.std.specs.Prelude.{false, IsTrue, IfOk, IfErr, IfSome, Some, None, take};
 ghost use Rattle.std.specs.List.{AllByRecursion};
 ghost use Rattle.std.specs.Option.{option_to_list};
-ghost use Rattle.mm_text.specs.Statement.{PlainStatement};
+ghost use Rattle.mm_base.specs.Statement.{PlainStatement};
 ghost use Rattle.mm_text.specs.Reading.{Reads};
 ghost use Rattle.mm_frame.specs.Numbers.{labelled_sentences, AreNumbers};
 ghost use Rattle.mm_frame.specs.Sentence.{Sentence};

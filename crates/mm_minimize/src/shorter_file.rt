@@ -2,7 +2,7 @@
 
 ghost use Rattle.std.specs.Prelude.{◌≡◌, ◌<◌, ◌≤◌, List, [], length, true, None, IfOk, IfErr, OnOk};
 ghost use Rattle.std.specs.Prelude.{IsTrue, ℕ, ◌⊎◌, false};
-ghost use Rattle.mm_text.specs.Statement.{PlainStatement, plain_statement, HasForm};
+ghost use Rattle.mm_base.specs.Statement.{PlainStatement, plain_statement, HasForm};
 ghost use Rattle.mm_text.specs.Reading.{Reads};
 ghost use Rattle.mm_rules.specs.declared.ask.AskFault.TheVariants.{Memory};
 ghost use Rattle.mm_minimize.specs.AllShorter.{IsAllShortened, IsAllShorterFault};
@@ -17,11 +17,11 @@ ghost use Rattle.mm_verdict.specs.declared.form.Form.TheVariants.{Small};
 use crate::compared::shorter_proof;
 use crate::search::Search;
 use crate::shortening::{Shortening, Shorter};
+use mm_base::Statement;
 use mm_frame::LabelId;
 use mm_render::small_span_text;
 use mm_rules::AskFault;
 use mm_save::{NewFile, new_file};
-use mm_text::Statement;
 use mm_verdict::{Checked, Form, Rereading, Watch};
 use std::alloc::Global;
 

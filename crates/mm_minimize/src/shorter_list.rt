@@ -3,7 +3,7 @@
 ghost use Rattle.std.specs.Prelude.{◌≡◌, ◌+◌, ◌++◌, ◌<◌, ◌^◌, List, [], length, map, min};
 ghost use Rattle.std.specs.Prelude.{None, IfOk, IfErr, OnOk};
 ghost use Rattle.std.specs.List.{AllByRecursion};
-ghost use Rattle.mm_text.specs.Statement.{PlainStatement, plain_statement, HasForm};
+ghost use Rattle.mm_base.specs.Statement.{PlainStatement, plain_statement, HasForm};
 ghost use Rattle.mm_text.specs.Reading.{Reads};
 ghost use Rattle.mm_rules.specs.declared.ask.AskFault.TheVariants.{Memory};
 ghost use Rattle.mm_minimize.specs.AllShorter.{AreShorterLines, ShorterLine, most_sum, shorter_text};
@@ -19,11 +19,11 @@ use crate::compared::{Compared, shorter_proof};
 use crate::search::Search;
 use crate::shortening::Shortening;
 use mm_axioms::push_marked;
+use mm_base::Statement;
 use mm_frame::LabelId;
 use mm_render::OwnProof;
 use mm_rules::{AskFault, push_decimal, push_number};
 use mm_save::label_of;
-use mm_text::Statement;
 use mm_verdict::{Checked, Rereading, Watch};
 use std::alloc::{AllocError, Global};
 

@@ -18,10 +18,10 @@ ghost use Rattle.mm_proof.specs.Mirror.CodeSteps.{IsReading, AreFor, moves_of};
 ghost use Rattle.mm_step.specs.Mirror.Sites.{IsSite};
 
 use crate::places::move_place;
+use mm_base::Token;
 use mm_frame::{Book, LabelId};
 use mm_proof::{Loose, ParseLists, fill_steps, fill_texts, first_loose};
 use mm_step::{Profile, ProofFault, Site};
-use mm_text::Token;
 use std::alloc::{AllocError, Global};
 
 // Fills the lists with what says the moves of the tokens, which break none of P1 to P5.

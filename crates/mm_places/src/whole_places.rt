@@ -25,10 +25,10 @@ ghost use Rattle.mm_places.specs.Mirror.CodeWhole.{AreLabelsFrom, IsBlamed, IsBe
 ghost use Rattle.mm_places.specs.Mirror.CodeWhole.{IsCutAt, IsByteOf, BreakLetters, IsFaultIndex};
 
 use crate::form_places::form_place;
+use mm_base::Token;
 use mm_frame::{Book, Frame, Guesses, LabelId};
 use mm_proof::{Use, begins_list, is_incomplete, known_prefix, parts, tokens_with, use_of};
 use mm_step::ProofRule;
-use mm_text::Token;
 use std::alloc::{AllocError, Global};
 
 // The labels of a proof, and the index of the token that is the first of them.

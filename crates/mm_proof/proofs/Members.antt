@@ -5,7 +5,7 @@ use Rattle.std.proofs.Common.{Option, None, subst, ⊎_elim}
 pub use Rattle.mm_proof.specs.Mirror.SharedSteps.{In}
 use Rattle.std.proofs.lemmas.Option.{same_Some, none-some, slice_get_within, get_or_from_slice_get}
 use Rattle.std.proofs.lemmas.Option.{slice_get-get_or}
-use Rattle.mm_text.specs.declared.statement.Kind.TheVariants.{Distinct}
+use Rattle.mm_base.specs.declared.statement.Kind.TheVariants.{Distinct}
 use Rattle.mm_frame.specs.Sentence.{Sentence}
 use Rattle.mm_frame.specs.Active.{IsActive, IsVariable}
 use Rattle.mm_frame.specs.Frame.{IsMandatory, AreThose, IsDistinct, IsMandatoryPair}

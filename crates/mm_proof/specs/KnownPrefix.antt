@@ -5,7 +5,7 @@
 use Rattle.std.specs.Prelude.{ℕ, List, [], ◌∷◌, ◌++◌, Bool, false, Option, Some, None}
 use Rattle.std.specs.Prelude.{slice_get, if◌then◌else◌}
 use Rattle.std.specs.List.{list_any, before_first, position_or_len}
-use Rattle.mm_text.specs.Items.{spells}
+use Rattle.mm_base.specs.Spelling.{spells}
 use Rattle.mm_frame.specs.Sentence.{Sentence}
 use Rattle.mm_step.specs.Substitution.{Expression}
 use Rattle.mm_step.specs.Moves.{Move}

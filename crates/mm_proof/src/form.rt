@@ -20,10 +20,10 @@ ghost use Rattle.mm_proof.specs.Mirror.CodeForm.{AreMarksStrict, IsFirstLoose, I
 
 use crate::label_set::LabelSet;
 use crate::prefix::begins_list;
+use mm_base::{Seed, Token};
 use mm_code::Code;
 use mm_frame::{Book, Hypothesis, LabelId};
 use mm_step::{ProofFault, ProofRule, Site, is_assertion};
-use mm_text::{Seed, Token};
 use std::alloc::{AllocError, Global};
 
 // The labels of the hypotheses.

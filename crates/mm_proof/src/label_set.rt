@@ -4,8 +4,8 @@ ghost use Rattle.std.specs.Prelude.{◌≡◌, ◌≤◌, [], length, slice_get,
 ghost use Rattle.mm_proof.specs.Mirror.CodeSharing.{AddsNew};
 
 use indexmap::IndexSet;
+use mm_base::Seed;
 use mm_frame::LabelId;
-use mm_text::Seed;
 use std::alloc::{AllocError, Global};
 use std::marker::Model;
 

@@ -7,9 +7,9 @@ ghost use Rattle.mm_proof.specs.Answer.{OnRule};
 ghost use Rattle.mm_step.specs.Plain.{ids_in, token_texts};
 ghost use Rattle.mm_proof.specs.Mirror.CodeSteps.{IsUseOf, AreFor, BreaksLabels};
 
+use mm_base::Token;
 use mm_frame::{Book, Found, Frame, Guesses, LabelId};
 use mm_step::{ProofFault, ProofRule};
-use mm_text::Token;
 
 /// What a label of a proof stands for.
 #[derive(Clone, Copy)]

@@ -1,7 +1,7 @@
 //! The moves of a proof, with numbers for labels (the Metamath book, section 4.3 and appendix B).
 
 ghost use Rattle.std.specs.Prelude.{◌≡◌, ◌≤◌, length};
-ghost use Rattle.mm_text.specs.Files.{most_bytes};
+ghost use Rattle.mm_base.specs.MostBytes.{most_bytes};
 
 use mm_code::Code;
 use mm_frame::LabelId;

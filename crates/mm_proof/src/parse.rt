@@ -6,7 +6,7 @@ ghost use Rattle.std.specs.Prelude.{◌++◌, length, map, take, slice_get, Some
 ghost use Rattle.std.specs.Prelude.{IfOk, IfErr, OnOk, IsTrue, MatchOption};
 ghost use Rattle.mm_frame.specs.declared.number.LabelId.{LabelId};
 ghost use Rattle.std.specs.List.{flat_map, sum_by};
-ghost use Rattle.mm_text.specs.Files.{most_bytes};
+ghost use Rattle.mm_base.specs.MostBytes.{most_bytes};
 ghost use Rattle.mm_code.specs.Letters.{HasSpelling, Letters, LettersBreak};
 ghost use Rattle.mm_frame.specs.Sentence.{Sentence};
 ghost use Rattle.mm_proof.specs.Answer.{OnRule};
@@ -29,10 +29,10 @@ use crate::form::judge_form;
 use crate::labels::fill_numbers;
 use crate::moves::{Parsed, Steps};
 use crate::prefix::{begins_list, is_byte, is_unknown, known_prefix};
+use mm_base::Token;
 use mm_code::{Code, CodeFault, CodeRule, fill_codes};
 use mm_frame::{Book, Guesses, Hypothesis, LabelId};
 use mm_step::{Profile, ProofFault, ProofRule, Site};
-use mm_text::Token;
 use std::alloc::{AllocError, Global};
 use std::mem::replace;
 

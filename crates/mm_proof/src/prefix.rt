@@ -4,13 +4,13 @@
 ghost use Rattle.std.specs.Prelude.{◌≡◌, ◌↔◌, ◌≤◌, [], ◌∷◌, ◌++◌, take, slice_get, length, IfOk};
 ghost use Rattle.std.specs.Prelude.{IsTrue};
 ghost use Rattle.std.specs.List.{position_or_len};
-ghost use Rattle.mm_text.specs.Items.{spells};
+ghost use Rattle.mm_base.specs.Spelling.{spells};
 ghost use Rattle.mm_proof.specs.Tokens.{is_question, is_unknown, BeginsList};
 ghost use Rattle.mm_proof.specs.KnownPrefix.{begins_list, ends_list};
 ghost use Rattle.mm_proof.specs.KnownPrefix.{known_piece, known_prefix};
 ghost use Rattle.mm_step.specs.Plain.{token_texts};
 
-use mm_text::Token;
+use mm_base::Token;
 use std::alloc::{AllocError, Global};
 
 /// Whether the token is the one byte.

@@ -2,9 +2,9 @@
 
 ghost use Rattle.std.specs.Prelude.{◌≡◌, ◌≢◌, ℕ, ◌+◌, ◌<◌, ◌≤◌, [], ◌∷◌, ◌++◌, map, take, Ok, Err};
 ghost use Rattle.std.specs.Prelude.{IfOk, IfErr, OnOk, OnErr, IsOkUnless};
-ghost use Rattle.mm_text.specs.declared.statement.Kind.TheVariants.{Closing};
-ghost use Rattle.mm_text.specs.Statement.{plain_statement, HasForm, bytes_in};
-ghost use Rattle.mm_text.specs.Files.{most_bytes};
+ghost use Rattle.mm_base.specs.declared.statement.Kind.TheVariants.{Closing};
+ghost use Rattle.mm_base.specs.Statement.{plain_statement, HasForm, bytes_in};
+ghost use Rattle.mm_base.specs.MostBytes.{most_bytes};
 ghost use Rattle.mm_frame.specs.declared.rule.MeaningRule.{MeaningRule};
 ghost use Rattle.mm_frame.specs.declared.answer.RuleFault.TheVariants.{Rule, Memory};
 ghost use Rattle.mm_frame.specs.Sentence.{Sentence, sentence_in};
@@ -27,9 +27,9 @@ ghost use Rattle.mm_step.specs.Plain.{ids_in, token_texts};
 use crate::parse::{ParseLists, fill_under, is_incomplete};
 use crate::prefix::known_prefix;
 use crate::run::{judgement, pass};
+use mm_base::{Seed, Statement, Token};
 use mm_frame::{Book, LabelId, RuleFault, Taken};
 use mm_step::{Flat, Named, Profile, ProofFault, ProofRule, Site};
-use mm_text::{Seed, Statement, Token};
 use std::alloc::Global;
 use std::marker::Model;
 

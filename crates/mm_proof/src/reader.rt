@@ -2,7 +2,7 @@
 
 ghost use Rattle.std.specs.Prelude.{◌≡◌, ◌≤◌, ℕ, length, take, false, IfOk, IfErr};
 ghost use Rattle.std.specs.List.{sum_by};
-ghost use Rattle.mm_text.specs.Files.{most_bytes};
+ghost use Rattle.mm_base.specs.MostBytes.{most_bytes};
 ghost use Rattle.mm_frame.specs.Sentence.{Sentence};
 ghost use Rattle.mm_proof.specs.Answer.{OnRule};
 ghost use Rattle.mm_proof.specs.Parsed.{OfProof, SaySteps};
@@ -12,9 +12,9 @@ ghost use Rattle.mm_proof.specs.Strict.{HasFormOf, IsTextFault};
 
 use crate::moves::Steps;
 use crate::parse::{ParseLists, read_steps};
+use mm_base::Token;
 use mm_frame::{Book, LabelId};
 use mm_step::{Profile, ProofFault};
-use mm_text::Token;
 use std::alloc::Global;
 use std::marker::Model;
 

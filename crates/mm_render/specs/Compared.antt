@@ -1,7 +1,7 @@
 -- Whether a text is a proof of a theorem that spells the same tree as its own: what is wrong with
 -- the text, and the answer (the Metamath book, sections 4.1.1, 4.3, 4.4.3 and 4.4.4, appendix B).
 use Rattle.std.specs.Prelude.{◌↔◌, ℕ, Bool, IsTrue, List, take}
-use Rattle.mm_text.specs.Statement.{PlainStatement}
+use Rattle.mm_base.specs.Statement.{PlainStatement}
 use Rattle.mm_code.specs.Words.{tokens_in}
 use Rattle.mm_frame.specs.Sentence.{sentence_of}
 use Rattle.mm_step.specs.declared.profile.Profile.{Profile}

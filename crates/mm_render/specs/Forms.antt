@@ -2,7 +2,7 @@
 -- its tree, the packed one, which is the fully shared proof of its tree, and the small one, whose
 -- labels are listed by use (the Metamath book, sections 4.3 and 4.4.3, appendix B).
 use Rattle.std.specs.Prelude.{◌≡◌, ℕ, ◌<◌, ◌≤◌, List, take, length, slice_get, true, Some}
-use Rattle.mm_text.specs.Statement.{PlainStatement}
+use Rattle.mm_base.specs.Statement.{PlainStatement}
 use Rattle.mm_code.specs.declared.code.Code.{Code}
 use Rattle.mm_code.specs.Letters.{SpellsCodes, Letters}
 use Rattle.mm_code.specs.Layout.{LaidOut, CompressedLaidOut}

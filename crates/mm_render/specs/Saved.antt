@@ -3,8 +3,9 @@
 -- this project's own.
 use Rattle.std.specs.Prelude.{◌≡◌, ℕ, suc, ◌<◌, ◌≤◌, ◌==◌, ◌⊎◌, List, [], ◌∷◌, take, length, min}
 use Rattle.std.specs.Prelude.{slice_get, slice_range, Some, if◌then◌else◌}
-use Rattle.mm_text.specs.Statement.{PlainStatement}
-use Rattle.mm_text.specs.Files.{PlainFile, most_bytes}
+use Rattle.mm_base.specs.Statement.{PlainStatement}
+use Rattle.mm_text.specs.Files.{PlainFile}
+use Rattle.mm_base.specs.MostBytes.{most_bytes}
 use Rattle.mm_text.specs.Replaced.{with_span}
 use Rattle.mm_code.specs.Layout.{space, line_feed}
 use Rattle.mm_code.specs.SmallLayout.{most_indent}

@@ -3,8 +3,8 @@
 -- is this project's own; the marks and the mathboxes that they heed are conventions of the field.
 use Rattle.std.specs.Prelude.{◌≡◌, ℕ, ◌<◌, ◌≤◌, List, [], ◌∷◌, take, length, slice_get}
 use Rattle.std.specs.Prelude.{true, codes, option_map, unwrap_or, ◌⊎◌}
-use Rattle.mm_text.specs.declared.statement.Kind.TheVariants.{Axiom}
-use Rattle.mm_text.specs.Statement.{PlainStatement}
+use Rattle.mm_base.specs.declared.statement.Kind.TheVariants.{Axiom}
+use Rattle.mm_base.specs.Statement.{PlainStatement}
 use Rattle.mm_text.specs.Files.{PlainFile}
 use Rattle.mm_text.specs.Remarks.{IsSaidBefore, mathbox_at}
 use Rattle.mm_code.specs.declared.code.Code.{Code}

@@ -1,7 +1,7 @@
 -- The text of the listing of a theorem's proof, which is this project's own.
 use Rattle.std.specs.Prelude.{◌≡◌, ℕ, ◌+◌, List, [], ◌∷◌, ◌++◌, take, slice_get, true, Some, codes}
 use Rattle.std.specs.Prelude.{decimal}
-use Rattle.mm_text.specs.Statement.{PlainStatement}
+use Rattle.mm_base.specs.Statement.{PlainStatement}
 use Rattle.mm_frame.specs.Sentence.{Sentence, sentence_of, IsLabelled}
 use Rattle.mm_step.specs.Moves.{Move}
 use Rattle.mm_proof.specs.Tokens.{SayMoves}

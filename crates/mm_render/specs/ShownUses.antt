@@ -3,7 +3,7 @@ use Rattle.std.specs.Prelude.{◌≡◌, ℕ, ◌+◌, List, [], ◌∷◌, ◌+
 use Rattle.std.specs.Prelude.{codes}
 use Rattle.std.specs.Prelude.{Bool, true, false, cond, decimal, replicate}
 use Rattle.std.specs.List.{flat_map}
-use Rattle.mm_text.specs.Statement.{PlainStatement}
+use Rattle.mm_base.specs.Statement.{PlainStatement}
 use Rattle.mm_frame.specs.Sentence.{Sentence, sentence_of, IsLabelled}
 use Rattle.mm_step.specs.Moves.{Move}
 use Rattle.mm_proof.specs.Tokens.{SayMoves}

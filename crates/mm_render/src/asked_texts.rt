@@ -15,7 +15,7 @@ ghost use Rattle.mm_rules.specs.declared.ask.AskFault.TheVariants.{Memory};
 ghost use Rattle.mm_verdict.specs.declared.form.Form.TheVariants.{Small};
 ghost use Rattle.mm_step.specs.Steps.{AreSteps};
 ghost use Rattle.mm_text.specs.Reading.{Reads};
-ghost use Rattle.mm_text.specs.Statement.{PlainStatement};
+ghost use Rattle.mm_base.specs.Statement.{PlainStatement};
 ghost use Rattle.std.specs.Prelude.{false, None, IfOk, IfErr};
 ghost use Rattle.std.specs.Prelude.{◌≡◌, ◌<◌, List};
 

@@ -2,7 +2,7 @@
 
 ghost use Rattle.std.specs.Prelude.{◌≡◌, ◌≤◌, ℕ, false, length, take, IfOk, IfErr, OnOk};
 ghost use Rattle.std.specs.List.{sum_by};
-ghost use Rattle.mm_text.specs.Files.{most_bytes};
+ghost use Rattle.mm_base.specs.MostBytes.{most_bytes};
 ghost use Rattle.mm_code.specs.Layout.{texts};
 ghost use Rattle.mm_code.specs.Words.{tokens_in};
 ghost use Rattle.mm_frame.specs.Sentence.{Sentence};

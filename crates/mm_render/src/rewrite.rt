@@ -2,15 +2,17 @@
 
 ghost use Rattle.std.specs.Prelude.{◌≡◌, ◌<◌, ◌≤◌, ◌↔◌, List, ℕ, map, length, IfOk, IfErr};
 ghost use Rattle.std.specs.Prelude.{IsTrue};
-ghost use Rattle.mm_text.specs.Files.{most_bytes, plain_file, total_bytes};
+ghost use Rattle.mm_base.specs.MostBytes.{most_bytes};
+ghost use Rattle.mm_text.specs.Files.{plain_file, total_bytes};
 ghost use Rattle.mm_text.specs.Replaced.{with_span};
 ghost use Rattle.mm_render.specs.Saved.{FitsSaved};
 ghost use Rattle.mm_verdict.specs.Saved.{total_with};
 ghost use Rattle.mm_render.specs.Mirror.AllSaving.{IsMostFor};
 ghost use Rattle.mm_render.specs.Mirror.Rewriting.{HoldsSpan, StandIn, IsPutIn, IsPutFault};
 
+use mm_base::File;
 use mm_rules::{AskFault, size_of};
-use mm_text::{BYTE_LIMIT, File};
+use mm_text::BYTE_LIMIT;
 use std::alloc::{AllocError, Global};
 
 /// The bytes with a text in place of those of a span.

@@ -3,7 +3,7 @@
 ghost use Rattle.std.specs.Prelude.{◌≡◌, ◌++◌, ◌<◌, ℕ, List, [], map, length, slice_get, take};
 ghost use Rattle.std.specs.Prelude.{OnOk, Some};
 ghost use Rattle.std.specs.List.{flat_map};
-ghost use Rattle.mm_text.specs.Statement.{keyword_of};
+ghost use Rattle.mm_base.specs.Statement.{keyword_of};
 ghost use Rattle.mm_frame.specs.Sentence.{Sentence, IsAssertion};
 ghost use Rattle.mm_frame.specs.Numbers.{IsNumbered, labelled_sentences, symbols_of};
 ghost use Rattle.mm_frame.specs.Numbers.{IsAssertionNumber};

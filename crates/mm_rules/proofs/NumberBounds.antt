@@ -3,7 +3,7 @@ use Rattle.std.proofs.Common.{◌≡◌, ℕ, ◌+◌, ◌<◌, ◌≤◌, List,
 use Rattle.std.proofs.Common.{slice_get, Contains}
 use Rattle.std.proofs.Common.{Some, inl, inr, arith}
 use Rattle.std.proofs.lemmas.Bool.{cases_eq, cases_lt}
-use Rattle.mm_text.proofs.Lists.{at_from_contains}
+use Rattle.mm_base.proofs.Lists.{at_from_contains}
 use Rattle.mm_rules.specs.Rests.{AreRising}
 
 -- ==== a search among rising numbers

@@ -6,8 +6,8 @@ use Rattle.std.proofs.Common.{⊎_elim, refl, ◌∙◌, get_or, ap, map, filter
 use Rattle.std.proofs.Common.{Option, None}
 use Rattle.std.proofs.lemmas.List.Elements.{Contains-append_left}
 use Rattle.std.proofs.lemmas.Option.{slice_get_within, same_Some, none-some, get_or_from_slice_get}
-use Rattle.mm_text.proofs.Lists.{get_pushed, pushed_cases, at_from_contains, contains_from_at}
-use Rattle.mm_text.proofs.Lists.{get_kept, get_within}
+use Rattle.mm_base.proofs.Lists.{get_pushed, pushed_cases, at_from_contains, contains_from_at}
+use Rattle.mm_base.proofs.Lists.{get_kept, get_within}
 use Rattle.mm_rules.specs.Rests.{AreRising, AreInOrder}
 use Rattle.std.specs.Prelude.{if◌then◌else◌, nat_lt}
 use Rattle.std.proofs.lemmas.Bool.Decides.{nat_tests}

@@ -3,7 +3,7 @@ use Rattle.std.proofs.Common.{◌≡◌, ℕ, ◌<◌, List, [], take, inl, inr}
 use Rattle.std.proofs.Common.{slice_get, Some, ap, sym, subst, ◌∙◌, arith, Contains, option_map}
 use Rattle.std.proofs.lemmas.List.{take-take}
 use Rattle.std.proofs.lemmas.Option.{slice_get-map, same_Some}
-use Rattle.mm_text.proofs.Lists.{at_from_contains, contains_from_at, get_from_take}
+use Rattle.mm_base.proofs.Lists.{at_from_contains, contains_from_at, get_from_take}
 use Rattle.mm_frame.specs.Sentence.{Sentence}
 use Rattle.mm_frame.specs.Numbers.{IsNumberOf, IsNumbered}
 use Rattle.mm_frame.specs.Rules.{AllMeant}

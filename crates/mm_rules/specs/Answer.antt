@@ -7,7 +7,7 @@ use Rattle.mm_rules.specs.declared.fault.Refusal.{Refusal}
 use Rattle.mm_rules.specs.declared.fault.CheckFault.{CheckFault}
 use Rattle.mm_rules.specs.declared.fault.CheckFault.TheVariants as fault
 use Rattle.mm_rules.specs.Conclusion.{Conclusion}
-use Rattle.mm_text.specs.Statement.{PlainStatement}
+use Rattle.mm_base.specs.Statement.{PlainStatement}
 use Rattle.mm_text.specs.Files.{PlainFile}
 use Rattle.mm_text.specs.Reading.{PlainFault, Reads}
 use Rattle.mm_step.specs.declared.fault.ProofRule.TheVariants.{L1}

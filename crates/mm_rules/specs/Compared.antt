@@ -5,9 +5,9 @@ use Rattle.std.specs.Prelude.{length, slice_get, Some}
 use Rattle.std.specs.List.{list_any, list_all}
 use Rattle.mm_text.specs.declared.fault.LoadRule.TheVariants.{F3}
 use Rattle.mm_text.specs.declared.fault.TextRule.TheVariants.{X1, X9}
-use Rattle.mm_text.specs.Token.{is_printable}
-use Rattle.mm_text.specs.Files.{most_bytes}
-use Rattle.mm_text.specs.Statement.{PlainStatement}
+use Rattle.mm_base.specs.Token.{is_printable}
+use Rattle.mm_base.specs.MostBytes.{most_bytes}
+use Rattle.mm_base.specs.Statement.{PlainStatement}
 use Rattle.mm_code.specs.Words.{tokens_in}
 use Rattle.mm_frame.specs.Sentence.{Sentence, sentence_of, IsLabelled}
 use Rattle.mm_step.specs.declared.fault.ProofRule.{ProofRule}

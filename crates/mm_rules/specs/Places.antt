@@ -3,7 +3,7 @@
 use Rattle.std.specs.Prelude.{ℕ, ◌+◌, ◌==◌, List, [], ◌++◌, take, not, slice_get, option_map}
 use Rattle.std.specs.Prelude.{unwrap_or, codes, decimal}
 use Rattle.std.specs.List.{suffix_len}
-use Rattle.mm_text.specs.Token.{PlainToken}
+use Rattle.mm_base.specs.Token.{PlainToken}
 use Rattle.mm_text.specs.Files.{PlainFile}
 use Rattle.mm_text.specs.LineNumbers.{line_of}
 use Rattle.mm_rules.specs.declared.position.Place.{Place}

@@ -1,7 +1,7 @@
 -- The text of the listing of a theorem's proof, which is this project's own.
 use Rattle.std.specs.Prelude.{◌≡◌, ℕ, List, ◌++◌, slice_get, Some, codes}
 use Rattle.std.specs.List.{flat_map}
-use Rattle.mm_text.specs.Statement.{PlainStatement}
+use Rattle.mm_base.specs.Statement.{PlainStatement}
 use Rattle.mm_frame.specs.Sentence.{sentence_of, IsLabelled}
 
 -- a space and the symbol, for each symbol

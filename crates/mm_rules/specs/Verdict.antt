@@ -6,8 +6,8 @@ use Rattle.std.specs.Prelude.{None, option_map, ◌⊎◌}
 use Rattle.std.specs.List.{flat_map}
 use Rattle.std.specs.Option.{option_to_list}
 use Rattle.mm_text.specs.declared.fault.LoadRule.{LoadRule}
-use Rattle.mm_text.specs.declared.statement.Kind.TheVariants.{Provable}
-use Rattle.mm_text.specs.Statement.{PlainStatement, is_provable}
+use Rattle.mm_base.specs.declared.statement.Kind.TheVariants.{Provable}
+use Rattle.mm_base.specs.Statement.{PlainStatement, is_provable}
 use Rattle.mm_text.specs.Files.{PlainFile, BreaksLoad}
 use Rattle.mm_text.specs.LineNumbers.{line_of}
 use Rattle.mm_text.specs.Reading.{PlainFault, Reads}

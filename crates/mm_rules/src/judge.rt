@@ -1,9 +1,9 @@
 //! The verdict over one statement.
 
 ghost use Rattle.std.specs.Prelude.{◌≡◌, ◌+◌, ◌<◌, ◌≤◌, ◌^◌, IfOk, IfErr, option_map};
-ghost use Rattle.mm_text.specs.declared.statement.Kind.TheVariants.{Closing};
-ghost use Rattle.mm_text.specs.Statement.{plain_statement, HasForm, bytes_in};
-ghost use Rattle.mm_text.specs.Files.{most_bytes};
+ghost use Rattle.mm_base.specs.declared.statement.Kind.TheVariants.{Closing};
+ghost use Rattle.mm_base.specs.Statement.{plain_statement, HasForm, bytes_in};
+ghost use Rattle.mm_base.specs.MostBytes.{most_bytes};
 ghost use Rattle.mm_frame.specs.Active.{open_marks, close_marks};
 ghost use Rattle.mm_rules.specs.Verdict.{refusal_of};
 ghost use Rattle.mm_rules.specs.Mirror.Judged.{IsLastProof, IsTaken, JudgesProof};
@@ -14,10 +14,10 @@ use crate::fault::{Refusal, Stop};
 use crate::position::LineCount;
 use crate::progress::Progress;
 use crate::rule::Rule;
+use mm_base::{Kind, Statement};
 use mm_frame::{LabelId, RuleFault, Taken};
 use mm_proof::{Proved, Prover};
 use mm_step::{Profile, ProofFault};
-use mm_text::{Kind, Statement};
 use std::alloc::AllocError;
 
 /// What a statement came to that breaks no rule of meaning.

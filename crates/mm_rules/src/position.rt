@@ -3,13 +3,13 @@
 ghost use Rattle.std.specs.Prelude.{◌≡◌, ◌≤◌, ◌==◌, List, ◌++◌, map, take, drop, count_by, OnOk};
 ghost use Rattle.mm_text.specs.Files.{plain_file};
 ghost use Rattle.mm_text.specs.LineNumbers.{line_in, line_of as line_at};
-ghost use Rattle.mm_text.specs.Token.{plain_token};
+ghost use Rattle.mm_base.specs.Token.{plain_token};
 ghost use Rattle.mm_rules.specs.Places.{bytes_of as bytes_at, bytes_since_feed};
 ghost use Rattle.mm_rules.specs.Places.{column_of as column_at};
 ghost use Rattle.mm_rules.specs.Places.{name_of as name_at, place_of as place_at, place_text};
 
 use crate::words::push_decimal;
-use mm_text::{File, Token};
+use mm_base::{File, Token};
 use std::alloc::AllocError;
 use std::marker::Model;
 

@@ -1,9 +1,10 @@
 //! The size of files.
 
 ghost use Rattle.std.specs.Prelude.{◌≡◌, ◌≤◌, map};
-ghost use Rattle.mm_text.specs.Files.{most_bytes, plain_file, total_bytes};
+ghost use Rattle.mm_base.specs.MostBytes.{most_bytes};
+ghost use Rattle.mm_text.specs.Files.{plain_file, total_bytes};
 
-use mm_text::File;
+use mm_base::File;
 
 /// How many bytes the files hold in all; where they hold more than they may, some number.
 pub fn size_of(files: &[File]) -> usize

@@ -4,14 +4,14 @@ ghost use Rattle.std.specs.Prelude.{◌≡◌, []};
 
 use crate::fault::Stop;
 use crate::judge::Judged;
+use mm_base::Statement;
 use mm_frame::Book;
-use mm_text::Statement;
 
 /// What sees each statement of a database as soon as it is judged, with what it came to. It may
 /// stop at a proof that is refused, or go on.
 pub trait Visitor<'a> {
     ghost use Rattle.std.specs.Prelude.{List, OnOk, IfErr};
-    ghost use Rattle.mm_text.specs.Statement.{PlainStatement, plain_statement, HasForm};
+    ghost use Rattle.mm_base.specs.Statement.{PlainStatement, plain_statement, HasForm};
     ghost use Rattle.mm_text.specs.Files.{PlainFile};
     ghost use Rattle.mm_step.specs.declared.profile.Profile.{Profile};
     ghost use Rattle.mm_rules.specs.Verdict.{PlainRefusal};

@@ -1,14 +1,14 @@
 //! A file with the proof of one theorem written anew.
 
 ghost use Rattle.std.specs.Prelude.{◌≡◌, List, map, IfOk, IfErr};
-ghost use Rattle.mm_text.specs.Statement.{PlainStatement};
+ghost use Rattle.mm_base.specs.Statement.{PlainStatement};
 ghost use Rattle.mm_text.specs.Files.{plain_file};
 ghost use Rattle.mm_step.specs.declared.profile.Profile.TheVariants.{Lenient};
 ghost use Rattle.mm_rules.specs.Verdict.{AreAccepted};
 ghost use Rattle.mm_render.specs.Saved.{IsSaved, FitsSaved, IsSavingFault};
 
+use mm_base::{File, Seed};
 use mm_render::{SaveFault, saved_file};
-use mm_text::{File, Seed};
 use mm_verdict::{Form, check};
 use std::alloc::Global;
 

@@ -2,9 +2,10 @@
 
 ghost use Rattle.std.specs.Prelude.{◌≡◌, ◌<◌, ◌≤◌, ◌↔◌, [], List, ℕ, map, length};
 ghost use Rattle.std.specs.Prelude.{OnOk, IfOk, IfErr, IsTrue, None, ◌⊎◌};
-ghost use Rattle.mm_text.specs.declared.statement.Kind.TheVariants.{Provable};
-ghost use Rattle.mm_text.specs.Statement.{PlainStatement, plain_statement, HasForm};
-ghost use Rattle.mm_text.specs.Files.{most_bytes, plain_file, total_bytes};
+ghost use Rattle.mm_base.specs.declared.statement.Kind.TheVariants.{Provable};
+ghost use Rattle.mm_base.specs.Statement.{PlainStatement, plain_statement, HasForm};
+ghost use Rattle.mm_base.specs.MostBytes.{most_bytes};
+ghost use Rattle.mm_text.specs.Files.{plain_file, total_bytes};
 ghost use Rattle.mm_frame.specs.Sentence.{sentence_in, IsLabelled};
 ghost use Rattle.mm_step.specs.declared.profile.Profile.TheVariants.{Lenient};
 ghost use Rattle.mm_rules.specs.Verdict.{AreAccepted};
@@ -15,12 +16,12 @@ ghost use Rattle.mm_save.specs.Mirror.AllSaving.{PutsAfter, PutsText};
 ghost use Rattle.mm_save.specs.Mirror.AllSaving.{PutsProof, KeepsLabel, IsWrittenSoFar};
 ghost use Rattle.mm_save.specs.Mirror.AllSaving.{IsWhole, IsFinishFault};
 
+use mm_base::{File, Seed, Statement};
 use mm_frame::{Book, LabelId};
 use mm_proof::StepsReader;
 use mm_render::{SaveFault, most_for, span_text};
 use mm_rules::{AskFault, AskRule, CheckFault, Judged, Stop, Visitor};
 use mm_step::Profile;
-use mm_text::{File, Seed, Statement};
 use mm_verdict::{Form, judge_files, read_theorem};
 use std::alloc::{AllocError, Global};
 

@@ -5,8 +5,8 @@ ghost use Rattle.std.specs.Prelude.{◌≤◌};
 use crate::budget::Budget;
 use crate::graph::Graph;
 use indexmap::IndexMap;
+use mm_base::Seed;
 use mm_frame::{Book, Frame, Sym};
-use mm_text::Seed;
 use std::alloc::{AllocError, Global};
 
 /// The variables of expressions, by their nodes: of each expression they are listed once, when they

@@ -5,8 +5,8 @@ ghost use Rattle.mm_frame.specs.Numbers.{IsAssertionNumber};
 use crate::patterns::{Patterns, Placed};
 use crate::rests::{Grounds, Rests};
 use crate::trie::next_number;
+use mm_base::Seed;
 use mm_frame::{Book, Hypothesis, LabelId, Piece, Scheme, ShortPiece};
-use mm_text::Seed;
 use std::alloc::{AllocError, Global};
 
 /// Assertions with more mandatory variables aren't used.

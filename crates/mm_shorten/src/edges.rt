@@ -12,8 +12,8 @@ use crate::matches::{Matches, Row};
 use crate::missing::{Open, Opened};
 use crate::rests::is_within;
 use indexmap::IndexMap;
+use mm_base::Seed;
 use mm_frame::{Book, Frame, LabelId};
-use mm_text::Seed;
 use std::alloc::{AllocError, Global};
 
 /// A theorem for whose proof edges are sought.

@@ -1,8 +1,8 @@
 //! Expressions by number.
 
 use indexmap::IndexMap;
+use mm_base::Seed;
 use mm_frame::Sym;
-use mm_text::Seed;
 use std::alloc::{AllocError, Global};
 use std::hash::{BuildHasher, Hasher};
 

@@ -1,9 +1,9 @@
 //! The graph of a proof: each conclusion once, and the ways to derive it.
 
 use crate::expressions::Expressions;
+use mm_base::Seed;
 use mm_frame::{Book, LabelId, LabelKind, Sym};
 use mm_listing::{Name, UsedSteps};
-use mm_text::Seed;
 use std::alloc::{AllocError, Global};
 
 /// No node gets more edges than that.

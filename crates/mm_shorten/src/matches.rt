@@ -6,7 +6,7 @@ use crate::budget::Budget;
 use crate::patterns::Placed;
 use crate::trie::next_number;
 use indexmap::IndexMap;
-use mm_text::Seed;
+use mm_base::Seed;
 use std::alloc::{AllocError, Global};
 
 const MASK_BITS: usize = 64;

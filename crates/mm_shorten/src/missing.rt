@@ -8,8 +8,8 @@ use crate::goals::Goal;
 use crate::graph::{Edge, Graph, Origin};
 use crate::join::children_of;
 use indexmap::IndexMap;
+use mm_base::Seed;
 use mm_frame::{Piece, Sym};
-use mm_text::Seed;
 use std::alloc::{AllocError, Global};
 
 /// Of one assertion no more steps are opened in a proof.

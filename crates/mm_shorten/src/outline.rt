@@ -6,9 +6,9 @@ ghost use Rattle.mm_code.specs.Letters.{HasSpelling};
 use crate::chosen::Chosen;
 use crate::lists::{end_of, is_noted, note, unnoted};
 use indexmap::IndexSet;
+use mm_base::Seed;
 use mm_code::{Code, lay_out_compressed, write_codes};
 use mm_frame::{Book, Hypothesis, LabelId};
-use mm_text::Seed;
 use std::alloc::{AllocError, Global};
 
 // A node on the way down, and the index of the child that comes next.

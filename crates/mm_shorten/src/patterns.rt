@@ -1,8 +1,8 @@
 //! Patterns of expressions, all in one trie.
 
 use crate::trie::{ROOT, Trie, next_number};
+use mm_base::Seed;
 use mm_frame::{Hypothesis, Piece, Sym};
-use mm_text::Seed;
 use std::alloc::{AllocError, Global};
 
 /// A step of the trie of patterns by a variable.

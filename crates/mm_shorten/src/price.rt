@@ -2,8 +2,8 @@
 
 use crate::graph::{Edge, Graph};
 use indexmap::IndexSet;
+use mm_base::Seed;
 use mm_frame::{Book, Hypothesis, LabelId};
-use mm_text::Seed;
 use std::alloc::{AllocError, Global};
 
 /// What a byte costs.

@@ -5,8 +5,8 @@ ghost use Rattle.std.specs.Prelude.{◌≤◌};
 use crate::budget::Budget;
 use crate::graph::Graph;
 use crate::trie::{ROOT, Trie, next_number};
+use mm_base::Seed;
 use mm_frame::Sym;
-use mm_text::Seed;
 use std::alloc::{AllocError, Global};
 
 /// Syntax: a conclusion without its type code.

@@ -1,8 +1,8 @@
 //! Tries over symbols.
 
 use indexmap::IndexMap;
+use mm_base::Seed;
 use mm_frame::Sym;
-use mm_text::Seed;
 use std::alloc::{AllocError, Global};
 
 /// The node of a trie at which each expression begins.

@@ -16,7 +16,7 @@ use Rattle.mm_step.specs.declared.entry.Entry.{Entry}
 use Rattle.mm_step.specs.Stores.{numbers_in, said_by, all_said_by}
 use Rattle.mm_frame.specs.declared.piece.Piece.{Piece}
 use Rattle.mm_step.specs.Mirror.Buffer.{parts_of, IsPart, AreParts}
-use Rattle.mm_text.proofs.Lists.{get_from_front}
+use Rattle.mm_base.proofs.Lists.{get_from_front}
 use Rattle.mm_frame.proofs.BookLists.GrownLists.{slice_left}
 
 -- ==== elements of a list that a contract sees as something else

@@ -3,7 +3,7 @@
 use Rattle.std.specs.Prelude.{◌≡◌, ◌≢◌, ℕ, ◌<◌, ◌≤◌, List, [], ◌∷◌, ◌++◌, take, drop, length}
 use Rattle.std.specs.Prelude.{slice_get, Some, ◌⊎◌}
 use Rattle.std.specs.List.{AllZip}
-use Rattle.mm_text.specs.declared.statement.Kind.TheVariants.{Floating, Essential}
+use Rattle.mm_base.specs.declared.statement.Kind.TheVariants.{Floating, Essential}
 use Rattle.mm_code.specs.declared.code.CodeRule.TheVariants as code
 use Rattle.mm_frame.specs.Sentence.{Sentence, IsHypothesis, IsLabelled, Types}
 use Rattle.mm_frame.specs.Active.{SomeActive}

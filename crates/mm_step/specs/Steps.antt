@@ -2,7 +2,7 @@
 -- sections 4.3 and 4.4.3 and appendix B; the numbers are this project's own.
 use Rattle.std.specs.Prelude.{◌≡◌, ℕ, List, take, slice_get, Some, ◌⊎◌}
 use Rattle.std.specs.List.{AllZip, AllByRecursion}
-use Rattle.mm_text.specs.declared.statement.Kind.TheVariants.{Provable}
+use Rattle.mm_base.specs.declared.statement.Kind.TheVariants.{Provable}
 use Rattle.mm_frame.specs.Sentence.{Sentence, SomeSentence, IsHypothesis, IsAssertion, IsLabelled}
 use Rattle.mm_frame.specs.Active.{SomeActive}
 use Rattle.mm_frame.specs.Numbers.{labelled_sentences, IsNumbered}

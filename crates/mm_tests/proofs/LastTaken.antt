@@ -1,9 +1,9 @@
 -- The statement that was taken last, where it is a `$p`.
 use Rattle.std.proofs.Common.{◌≡◌, List, [], ◌∷◌, ◌++◌, take, length, slice_get, refl, sym, ap, ◌∙◌}
-use Rattle.mm_text.specs.declared.statement.Kind.{Kind}
-use Rattle.mm_text.specs.declared.statement.Kind.TheVariants.{Provable}
-use Rattle.mm_text.specs.Statement.{PlainStatement, HasForm}
-use Rattle.mm_text.proofs.Lists.{get_pushed}
+use Rattle.mm_base.specs.declared.statement.Kind.{Kind}
+use Rattle.mm_base.specs.declared.statement.Kind.TheVariants.{Provable}
+use Rattle.mm_base.specs.Statement.{PlainStatement, HasForm}
+use Rattle.mm_base.proofs.Lists.{get_pushed}
 use Rattle.mm_frame.specs.declared.number.LabelId.{LabelId}
 use Rattle.mm_frame.specs.declared.answer.Taken.{Taken}
 use Rattle.mm_frame.specs.declared.answer.Taken.TheVariants.{Assertion}

@@ -3,11 +3,11 @@
 
 use crate::tests::{contents_of, expect_reply, files_of, joined};
 use crate::{Asked, form_lines, forms, sameness, saving, saving_all};
+use mm_base::{File, Seed};
 use mm_check::{Command, Question};
 use mm_render::{SaveFault, is_same_proof, normal_form, packed_form, small_form};
 use mm_rules::{AskFault, AskRule, Rule};
 use mm_save::{saved, saved_all};
-use mm_text::{File, Seed};
 use mm_verdict::{Checked, Form, check};
 use std::alloc::Global;
 use std::process::Abort;

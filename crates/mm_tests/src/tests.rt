@@ -10,10 +10,11 @@ use crate::{
     prefixes, profiles, proofs, questions, scopes, statements, users, uses, why, why_hypotheses,
     why_meaning, why_text,
 };
+use mm_base::{File, Seed, Statement};
 use mm_check::{Command, WholeQuestion, run};
 use mm_rules::Status;
 use mm_step::Profile;
-use mm_text::{Counted, File, Seed, Statement, Statements};
+use mm_text::{Counted, Statements};
 use mm_verdict::{Checked, check};
 use std::alloc::Global;
 use std::process::Abort;

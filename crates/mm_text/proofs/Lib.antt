@@ -1,4 +1,3 @@
-pub mod Lists
 pub mod Tokens
 pub mod Inclusions
 pub mod Reader

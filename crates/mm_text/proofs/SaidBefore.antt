@@ -9,10 +9,10 @@ use Rattle.std.specs.Prelude.{nat_eq}
 use Rattle.std.proofs.lemmas.List.{drop_more, drop_all, take_more}
 use Rattle.std.proofs.lemmas.Bool.{cases_Bool, cases_lt, both_ways, cond-true}
 use Rattle.std.proofs.lemmas.Bool.{cond-false, cond_both, and_left}
-use borrow.Author.Tests.{eqb-true}
-use Rattle.mm_text.specs.Token.{is_space}
+use Rattle.mm_base.specs.Token.{is_space}
 use Rattle.mm_text.specs.Remarks.{holds, behind_space, spaced, says, is_mark, before_mark, is_heading}
 use Rattle.mm_text.specs.Remarks.{headings, IsCommentBefore}
+use borrow.Author.Tests.{eqb-true}
 
 -- ---- a text byte by byte
 

@@ -3,8 +3,8 @@
 -- sections 4.1.2 and 4.4.1).
 use Rattle.std.specs.Prelude.{◌≡◌, ℕ, List, [], map, Option, None, option_map}
 use Rattle.std.specs.List.{AllZip}
-use Rattle.mm_text.specs.Token.{PlainToken, tokens_from}
-use Rattle.mm_text.specs.Statement.{PlainStatement}
+use Rattle.mm_base.specs.Token.{PlainToken, tokens_from}
+use Rattle.mm_base.specs.Statement.{PlainStatement}
 use Rattle.mm_text.specs.Files.{PlainFile}
 use Rattle.mm_text.specs.LineNumbers.{feeds_before, feeds_in}
 use Rattle.mm_text.specs.Items.{Item, Plain, Wrong, Inclusion, End, Shown, Clear, Broken}

@@ -1,8 +1,9 @@
 -- The handed files, and the rules that they break as a whole.
 use Rattle.std.specs.Prelude.{◌≡◌, ◌≢◌, ℕ, ◌<◌, List, [], length, sum_by, slice_get, Some}
-use Rattle.mm_text.specs.declared.file.File.{File}
+use Rattle.mm_base.specs.declared.file.File.{File}
 use Rattle.mm_text.specs.declared.fault.LoadRule.{LoadRule}
 use Rattle.mm_text.specs.declared.fault.LoadRule.TheVariants.{F1, F2, F3}
+use Rattle.mm_base.specs.MostBytes.{most_bytes}
 
 -- a file without where it lies in memory
 pub record PlainFile : Type 0 where
@@ -11,10 +12,6 @@ pub record PlainFile : Type 0 where
 
 abbrev pub plain_file : File → PlainFile
 plain_file f = record { name = f.name.now; bytes = f.bytes.now }
-
--- The most bytes that the handed files may hold in all, and a text that is handed in by itself: 2^30.
-abbrev pub most_bytes : ℕ
-most_bytes = 1073741824
 
 -- how many bytes the files hold in all
 abbrev pub total_bytes : List PlainFile → ℕ

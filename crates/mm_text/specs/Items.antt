@@ -4,12 +4,12 @@ use Rattle.std.specs.Prelude.{ℕ, zero, suc, ◌==◌, ◌&&◌, ◌||◌, List
 use Rattle.std.specs.Prelude.{replicate, Bool, true, false, not, if◌then◌else◌, codes, Option, Some}
 use Rattle.std.specs.Prelude.{None, slice_get, slice_set, slice_index_or, position}
 use Rattle.std.specs.List.{list_any, list_all}
-use Rattle.std.specs.Str.{bytes_eq}
 use Rattle.mm_text.specs.declared.fault.TextRule.{TextRule}
 use Rattle.mm_text.specs.declared.fault.TextRule.TheVariants.{X1, X2, X3, X4, X5, X7, X9}
-use Rattle.mm_text.specs.Token.{PlainToken, tokens_from, is_printable}
+use Rattle.mm_base.specs.Token.{PlainToken, tokens_from, is_printable}
 use Rattle.mm_text.specs.Files.{PlainFile}
-use Rattle.mm_text.specs.Statement.{keywords}
+use Rattle.mm_base.specs.Statement.{keywords}
+use Rattle.mm_base.specs.Spelling.{spells}
 
 -- What is met: a token that breaks no rule by itself; a fault, after which nothing follows; a `$[`,
 -- whose own faults come after it; the end of a file.
@@ -18,10 +18,6 @@ pub data Item : Type 0 where
   Wrong : (rule : TextRule) (token : PlainToken) → Item
   Inclusion : (token : PlainToken) → Item
   End : (file : ℕ) → Item
-
--- a text is this word, byte by byte
-abbrev pub spells : List ℕ → List ℕ → Bool
-spells text word = bytes_eq text word
 
 -- a text holds a `$`
 abbrev pub holds_dollar : List ℕ → Bool

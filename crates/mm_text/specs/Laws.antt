@@ -1,8 +1,8 @@
 -- The laws of readings, and of the items that are read.
 use Rattle.std.specs.Prelude.{◌≡◌, ◌≢◌, ℕ, ◌+◌, ◌≤◌, List, [], ◌∷◌, ◌++◌, length, replicate}
 use Rattle.std.specs.Prelude.{Option, true, false}
-use Rattle.mm_text.specs.Token.{PlainToken}
-use Rattle.mm_text.specs.Statement.{PlainStatement, Spells}
+use Rattle.mm_base.specs.Token.{PlainToken}
+use Rattle.mm_base.specs.Statement.{PlainStatement, Spells}
 use Rattle.mm_text.specs.Files.{PlainFile}
 use Rattle.mm_text.specs.Items.{Item, items, pieces_of, put_in}
 use Rattle.mm_text.specs.Reading.{PlainFault, IsBeginning, Viable, EndsAt, Reads}

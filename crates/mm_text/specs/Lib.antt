@@ -5,14 +5,9 @@ pub mod Reading
 pub mod Remarks
 pub mod RuleCodes
 pub mod Remaining
-pub mod Statement
-pub mod Blocks
-pub mod Token
-pub mod Empty
 pub mod Laws
 pub mod LineNumbers
 pub mod Alike
 pub mod Included
 pub mod Mirror
 pub mod Replaced
-pub mod Seed

@@ -5,17 +5,17 @@ use Rattle.std.specs.Prelude.{Option, Some, None, IfSome, ◌⊎◌, slice_range
 use Rattle.std.specs.List.{AllByRecursion}
 use Rattle.mm_text.specs.declared.fault.TextRule.{TextRule}
 use Rattle.mm_text.specs.declared.fault.TextRule.TheVariants.{X6, X8, S1, S2, S3, S4, S5, S6, S7}
-use Rattle.mm_text.specs.declared.statement.Kind.{Kind}
-use Rattle.mm_text.specs.declared.statement.Kind.TheVariants.{Constants, Variables, Distinct}
-use Rattle.mm_text.specs.declared.statement.Kind.TheVariants.{Floating, Essential, Axiom, Provable}
-use Rattle.mm_text.specs.declared.statement.Kind.TheVariants.{Opening, Closing}
-use Rattle.mm_text.specs.Token.{PlainToken, IsLabel, HoldsNoDollar}
+use Rattle.mm_base.specs.declared.statement.Kind.{Kind}
+use Rattle.mm_base.specs.declared.statement.Kind.TheVariants.{Constants, Variables, Distinct}
+use Rattle.mm_base.specs.declared.statement.Kind.TheVariants.{Floating, Essential, Axiom, Provable}
+use Rattle.mm_base.specs.declared.statement.Kind.TheVariants.{Opening, Closing}
+use Rattle.mm_base.specs.Token.{PlainToken, IsLabel, HoldsNoDollar}
 use Rattle.mm_text.specs.Files.{PlainFile}
 use Rattle.mm_text.specs.Items.{Item, Plain, Wrong, Inclusion, End, items, plain_tokens}
 use Rattle.mm_text.specs.Items.{HoldNoFault}
-use Rattle.mm_text.specs.Blocks.{AreBalanced, AreClosed, IsInnermost}
-use Rattle.mm_text.specs.Statement.{PlainStatement, IsKeyword, IsHead, HasBody, AreSymbols}
-use Rattle.mm_text.specs.Statement.{FitsCount, label_in, SpellsAll, keyword_of}
+use Rattle.mm_base.specs.Blocks.{AreBalanced, AreClosed, IsInnermost}
+use Rattle.mm_base.specs.Statement.{PlainStatement, IsKeyword, IsHead, HasBody, AreSymbols}
+use Rattle.mm_base.specs.Statement.{FitsCount, label_in, SpellsAll, keyword_of}
 
 -- A fault in the text: its rule, the number of its file and its position there, the number of the
 -- statement at fault, from 1, and the label of the statement in which it stands.

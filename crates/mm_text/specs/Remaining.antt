@@ -4,9 +4,9 @@ use Rattle.std.specs.Prelude.{None, Result, Ok, Err, option_map, ◌⊎◌}
 use Rattle.mm_text.specs.declared.fault.LoadRule.{LoadRule}
 use Rattle.mm_text.specs.declared.fault.TextFault.{TextFault}
 use Rattle.mm_text.specs.declared.fault.TextFault.TheVariants.{Load, Fault, Memory}
-use Rattle.mm_text.specs.Token.{plain_token}
-use Rattle.mm_text.specs.Statement.{PlainStatement, bytes_in}
-use Rattle.mm_text.specs.Blocks.{AreBalanced}
+use Rattle.mm_base.specs.Token.{plain_token}
+use Rattle.mm_base.specs.Statement.{PlainStatement, bytes_in}
+use Rattle.mm_base.specs.Blocks.{AreBalanced}
 use Rattle.mm_text.specs.Files.{PlainFile, total_bytes, BreaksLoad}
 use Rattle.mm_text.specs.Reading.{PlainFault, Reads, TellsMore}
 

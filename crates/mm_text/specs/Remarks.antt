@@ -5,7 +5,7 @@ use Rattle.std.specs.Prelude.{◌≡◌, ℕ, zero, suc, ◌+◌, ◌<◌, ◌�
 use Rattle.std.specs.Prelude.{◌∷◌, drop, Bool, true, false, if◌then◌else◌, codes, slice_index}
 use Rattle.std.specs.Prelude.{slice_range}
 use Rattle.std.specs.List.{starts_with}
-use Rattle.mm_text.specs.Token.{is_space}
+use Rattle.mm_base.specs.Token.{is_space}
 
 -- ---- what a text says
 

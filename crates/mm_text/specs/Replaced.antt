@@ -3,9 +3,9 @@
 use Rattle.std.specs.Prelude.{◌≡◌, ◌≢◌, ℕ, ◌+◌, ◌≤◌, List, [], ◌∷◌, ◌++◌, map, take, drop, length}
 use Rattle.std.specs.Prelude.{true, Option, Some, None, slice_get, slice_set}
 use Rattle.std.specs.List.{AllByRecursion, AllZip, list_all}
-use Rattle.mm_text.specs.declared.statement.Kind.TheVariants.{Provable}
-use Rattle.mm_text.specs.Token.{PlainToken, is_space, is_printable, tokens_from, HoldsNoDollar}
-use Rattle.mm_text.specs.Statement.{PlainStatement}
+use Rattle.mm_base.specs.declared.statement.Kind.TheVariants.{Provable}
+use Rattle.mm_base.specs.Token.{PlainToken, is_space, is_printable, tokens_from, HoldsNoDollar}
+use Rattle.mm_base.specs.Statement.{PlainStatement}
 use Rattle.mm_text.specs.Files.{PlainFile}
 use Rattle.mm_text.specs.Items.{Clear, without_comments}
 use Rattle.mm_text.specs.Reading.{PlainFault, Reads}

@@ -2,7 +2,7 @@
 
 ghost use Rattle.std.specs.Prelude.{◌≡◌, true};
 ghost use Rattle.std.specs.List.{list_all};
-ghost use Rattle.mm_text.specs.Token.{is_label_byte, is_label};
+ghost use Rattle.mm_base.specs.Token.{is_label_byte, is_label};
 ghost use Rattle.mm_text.specs.Items.{holds_dollar};
 ghost use Rattle.mm_text.specs.Mirror.Class.{IsReadApart, ClassIs};
 

@@ -3,19 +3,20 @@
 ghost use Rattle.std.specs.Prelude.{◌≡◌, ℕ, ◌==◌, ◌&&◌, ◌||◌, ◌≤◌, ◌<◌, true, false, length, codes};
 ghost use Rattle.std.specs.Prelude.{drop};
 ghost use Rattle.std.specs.Prelude.{slice_index, slice_range};
-ghost use Rattle.mm_text.specs.Token.{plain_token, is_space, tokens_from};
-ghost use Rattle.mm_text.specs.Items.{holds_mark, spells};
+ghost use Rattle.mm_base.specs.Token.{plain_token, is_space, tokens_from};
+ghost use Rattle.mm_text.specs.Items.{holds_mark};
+ghost use Rattle.mm_base.specs.Spelling.{spells};
 ghost use Rattle.mm_text.specs.Mirror.Position.{is_quiet, IsLegalPrefix, IsLegalUpTo, IsPosition};
 ghost use Rattle.mm_text.specs.Mirror.Position.{IsMarkAt, IsClosedAt, BeginsNext};
 ghost use Rattle.mm_text.specs.Mirror.Position.{IsSameFile, GoesOn, EndsComment, TakesOne};
 ghost use Rattle.mm_text.specs.Mirror.Position.{TakesWordAt, TakesShown, shown_at};
-ghost use Rattle.mm_text.specs.Files.{most_bytes};
+ghost use Rattle.mm_base.specs.MostBytes.{most_bytes};
 
 use crate::fault::TextRule;
 use crate::scan::{
     is_quiet, is_space, legal_end, short_word_end, skip_space, token_end, token_start,
 };
-use crate::token::Token;
+use mm_base::Token;
 
 /// The position up to which a file was read.
 #[derive(Clone, Copy)]

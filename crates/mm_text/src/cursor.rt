@@ -5,13 +5,11 @@ ghost use Rattle.mm_text.specs.Files.{plain_file};
 ghost use Rattle.mm_text.specs.Mirror.Next.{TakesItem, TakesWord, IsFirstCursor};
 
 use crate::fault::{LoadRule, TextFault};
-use crate::file::File;
 use crate::handed::is_within_limit;
 use crate::names::Names;
 use crate::nest::Nest;
 use crate::next::Next;
-use crate::seed::Seed;
-use crate::token::Token;
+use mm_base::{File, Seed, Token};
 use std::alloc::Global;
 use std::marker::Model;
 

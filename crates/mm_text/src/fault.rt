@@ -4,7 +4,7 @@ ghost use Rattle.std.specs.Prelude.{◌≡◌};
 ghost use Rattle.mm_text.specs.RuleCodes.{load_code, text_code};
 ghost use Rattle.mm_text.specs.declared.fault.TextFault.TheVariants.{Memory};
 
-use crate::token::Token;
+use mm_base::Token;
 use std::alloc::{AllocError, AllocFailed};
 use std::fmt;
 use std::fmt::Write;

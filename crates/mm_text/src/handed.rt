@@ -1,9 +1,10 @@
 //! What is judged of the handed files as a whole, beside their names.
 
 ghost use Rattle.std.specs.Prelude.{◌≤◌, ◌↔◌, map, IsTrue};
-ghost use Rattle.mm_text.specs.Files.{most_bytes, plain_file, total_bytes};
+ghost use Rattle.mm_base.specs.MostBytes.{most_bytes};
+ghost use Rattle.mm_text.specs.Files.{plain_file, total_bytes};
 
-use crate::file::File;
+use mm_base::File;
 
 /// So many bytes the files may hold in all.
 pub const BYTE_LIMIT: usize = 1_073_741_824;

@@ -9,9 +9,8 @@ ghost use Rattle.mm_text.specs.Mirror.Included.{AreOfFiles, met_with, unmet};
 use crate::class::Class;
 use crate::cursor::Cursor;
 use crate::fault::TextFault;
-use crate::file::File;
 use crate::next::Next;
-use crate::seed::Seed;
+use mm_base::{File, Seed};
 use std::alloc::{AllocError, Global};
 
 /// Consumes the next run of plain words and marks their files as seen.

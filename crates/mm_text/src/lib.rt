@@ -6,7 +6,6 @@ mod comments;
 mod counted;
 mod cursor;
 mod fault;
-mod file;
 mod handed;
 mod hollow;
 mod included;
@@ -19,15 +18,11 @@ mod parts;
 mod remarks;
 mod scan;
 mod scope;
-mod seed;
 mod sought;
-mod statement;
 mod statements;
-mod token;
 
 pub use counted::{Counted, Source, WriteFault};
 pub use fault::{LoadRule, TextFault, TextRule};
-pub use file::File;
 pub use handed::BYTE_LIMIT;
 pub use included::left_out;
 pub use laws::{
@@ -37,7 +32,4 @@ pub use laws::{
 };
 pub use load::{HollowBytes, LoadFault, read_all, read_hollow};
 pub use remarks::{headings_between, mathbox_at, says_before};
-pub use seed::Seed;
-pub use statement::{Kind, Statement};
 pub use statements::Statements;
-pub use token::Token;

@@ -8,9 +8,8 @@ ghost use Rattle.mm_text.specs.Files.{plain_file};
 ghost use Rattle.mm_text.specs.Mirror.Names.{number_among, AreNames};
 
 use crate::fault::{LoadRule, TextFault};
-use crate::file::File;
-use crate::seed::Seed;
 use indexmap::IndexSet;
+use mm_base::{File, Seed};
 use std::alloc::Global;
 use std::hash::{Hash, Hasher};
 use std::marker::Model;

@@ -3,9 +3,11 @@
 
 ghost use Rattle.std.specs.Prelude.{◌≡◌, ◌<◌, ◌≤◌, length, map, codes, slice_index_or, None, Some};
 ghost use Rattle.std.specs.Prelude.{IfOk, true, false};
-ghost use Rattle.mm_text.specs.Token.{plain_token};
-ghost use Rattle.mm_text.specs.Files.{most_bytes, plain_file, total_bytes};
-ghost use Rattle.mm_text.specs.Items.{spells, items};
+ghost use Rattle.mm_base.specs.Token.{plain_token};
+ghost use Rattle.mm_base.specs.MostBytes.{most_bytes};
+ghost use Rattle.mm_text.specs.Files.{plain_file, total_bytes};
+ghost use Rattle.mm_base.specs.Spelling.{spells};
+ghost use Rattle.mm_text.specs.Items.{items};
 ghost use Rattle.mm_text.specs.Mirror.Position.{IsPosition, IsSameFile};
 ghost use Rattle.mm_text.specs.Mirror.Next.{TakesItem, TakesWord};
 ghost use Rattle.mm_text.specs.Mirror.Nest.{TakesPiece, TakesInner, TakesName, Enters, Includes};
@@ -14,10 +16,9 @@ ghost use Rattle.mm_text.specs.Mirror.Nest.{IsNest, items_left, items_after};
 use crate::class::{Class, class_of_dollar};
 use crate::comments::{Position, Wrong, take_token, take_word};
 use crate::fault::TextRule;
-use crate::file::File;
 use crate::names::Names;
 use crate::next::Next;
-use crate::token::Token;
+use mm_base::{File, Token};
 use std::alloc::{AllocError, Global};
 
 /// Whether a token is `$[`.

@@ -1,7 +1,7 @@
 //! What is met as the files are read.
 
 use crate::class::Class;
-use crate::token::Token;
+use mm_base::Token;
 
 /// What is met next.
 #[derive(Clone, Copy)]

@@ -2,28 +2,28 @@
 
 ghost use Rattle.std.specs.Prelude.{◌≡◌, ◌≤◌, ◌<◌, ◌∷◌, true, false, Some, None, option_map};
 ghost use Rattle.std.specs.Prelude.{length, codes};
-ghost use Rattle.mm_text.specs.Items.{spells};
-ghost use Rattle.mm_text.specs.Token.{plain_token, HoldsNoDollar};
+ghost use Rattle.mm_base.specs.Spelling.{spells};
+ghost use Rattle.mm_base.specs.Token.{plain_token, HoldsNoDollar};
 ghost use Rattle.mm_text.specs.Mirror.Class.{keyword_bytes};
-ghost use Rattle.mm_text.specs.Statement.{plain_statement};
+ghost use Rattle.mm_base.specs.Statement.{plain_statement};
 ghost use Rattle.mm_text.specs.Items.{Plain};
 ghost use Rattle.mm_text.specs.Mirror.Next.{items_with, IsOfClass};
 ghost use Rattle.mm_text.specs.Mirror.Reader.{Between, Labelled, InBody, InProof, reading_of};
-ghost use Rattle.mm_text.specs.Mirror.Reader.{has_count, is_full, bare_statement};
-ghost use Rattle.mm_text.specs.Statement.{is_provable};
+ghost use Rattle.mm_text.specs.Mirror.Reader.{has_count, is_full};
+ghost use Rattle.mm_base.specs.Begun.{bare_statement};
+ghost use Rattle.mm_base.specs.Statement.{is_provable};
 ghost use Rattle.mm_text.specs.Mirror.Steps.{plain_scope, TakesWithin, TakesFirst, GivesPart};
 ghost use Rattle.mm_text.specs.Mirror.Steps.{GivesFirst, GivesStatement, StepsTo, is_block_sign};
 ghost use Rattle.mm_text.specs.Mirror.Steps.{ReadsOn};
 ghost use Rattle.mm_text.specs.Mirror.Steps.{bare_kind, labelled_kind, ends_symbols};
-ghost use Rattle.mm_text.specs.Files.{most_bytes};
+ghost use Rattle.mm_base.specs.MostBytes.{most_bytes};
 
 use crate::class::{Class, Keyword, is_label};
 use crate::cursor::Cursor;
 use crate::fault::{TextFault, TextRule};
 use crate::next::Next;
 use crate::scope::Scope;
-use crate::statement::{Kind, Statement};
-use crate::token::Token;
+use mm_base::{Kind, Statement, Token};
 
 /// The kind of statement with symbols that begins with a keyword, without a label.
 fn bare_kind(keyword: Keyword) -> Option<Kind>

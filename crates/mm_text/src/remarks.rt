@@ -3,7 +3,7 @@
 ghost use Rattle.std.specs.Prelude.{◌≡◌, ℕ, ◌+◌, ◌-◌, ◌∷◌, ◌<◌, ◌≤◌, ◌≢◌, ◌↔◌, ◌⊎◌, nat_eq, length};
 ghost use Rattle.std.specs.Prelude.{drop, true, false, slice_index, IfSome, IsTrue, MatchOption};
 ghost use Rattle.std.specs.List.{starts_with};
-ghost use Rattle.mm_text.specs.Token.{is_space};
+ghost use Rattle.mm_base.specs.Token.{is_space};
 ghost use Rattle.mm_text.specs.Remarks.{holds, spaced, says, is_mark, before_mark, is_heading};
 ghost use Rattle.mm_text.specs.Remarks.{headings, mathbox_at, IsCommentBefore, IsSaidBefore};
 

@@ -3,7 +3,7 @@
 ghost use Rattle.std.specs.Prelude.{◌≡◌, ℕ, ◌<◌, ◌≤◌, ◌+◌, ◌∷◌, ◌⊎◌, true, false, length, drop};
 ghost use Rattle.std.specs.Prelude.{slice_index, slice_range, IfSome};
 ghost use Rattle.std.specs.List.{list_all};
-ghost use Rattle.mm_text.specs.Token.{is_space, tokens_from};
+ghost use Rattle.mm_base.specs.Token.{is_space, tokens_from};
 ghost use Rattle.mm_text.specs.Items.{holds_dollar};
 ghost use Rattle.mm_text.specs.Mirror.Position.{is_legal, is_quiet, IsLegalPrefix, IsLegalUpTo};
 ghost use Rattle.mm_text.specs.Mirror.Position.{IsWordTo};

@@ -1,14 +1,14 @@
 //! The scope of a reader: how many statements it read, and the blocks that are open after them.
 
 ghost use Rattle.std.specs.Prelude.{◌≡◌, ◌+◌, ◌≤◌};
-ghost use Rattle.mm_text.specs.Token.{plain_token};
+ghost use Rattle.mm_base.specs.Token.{plain_token};
 ghost use Rattle.mm_text.specs.Mirror.Reader.{Between, scope_after_statement, has_none, end_fault};
 ghost use Rattle.mm_text.specs.Mirror.Reader.{outermost};
 ghost use Rattle.mm_text.specs.Mirror.Steps.{plain_scope, Opens, Closes, TellsFault};
-ghost use Rattle.mm_text.specs.Files.{most_bytes};
+ghost use Rattle.mm_base.specs.MostBytes.{most_bytes};
 
 use crate::fault::{TextFault, TextRule};
-use crate::token::Token;
+use mm_base::Token;
 use std::alloc::Global;
 
 /// A block that is open: where its `${` stands, and the number of that statement, from 1.

@@ -1,7 +1,7 @@
 //! The statements of the handed files, one after the other.
 
 ghost use Rattle.std.specs.Prelude.{◌≡◌, true, map, Ok};
-ghost use Rattle.mm_text.specs.Statement.{plain_statement, HasForm};
+ghost use Rattle.mm_base.specs.Statement.{plain_statement, HasForm};
 ghost use Rattle.mm_text.specs.Files.{plain_file};
 ghost use Rattle.mm_text.specs.Reading.{IsInPlace};
 ghost use Rattle.mm_text.specs.Remaining.{Begins, Gives};
@@ -10,11 +10,9 @@ ghost use Rattle.mm_text.specs.Mirror.ReaderState.{AreFew, AnswersIn};
 
 use crate::cursor::Cursor;
 use crate::fault::TextFault;
-use crate::file::File;
 use crate::parts::statement;
 use crate::scope::Scope;
-use crate::seed::Seed;
-use crate::statement::Statement;
+use mm_base::{File, Seed, Statement};
 use std::alloc::Global;
 use std::marker::Model;
 

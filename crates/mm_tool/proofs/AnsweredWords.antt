@@ -14,7 +14,7 @@ use Rattle.mm_tool.specs.Ending.{EndsWithoutWords, AnswersWords, IsReplyOver, St
 use Rattle.mm_tool.specs.Ending.{error_line, stop_status, unread_stop, AddsLabel, IsHelp}
 use Rattle.mm_tool.specs.Ending.{IsHelpFault, label_of}
 use Rattle.std.specs.List.{AllZip}
-use Rattle.mm_text.proofs.Lists.{zip_length}
+use Rattle.mm_base.proofs.Lists.{zip_length}
 use Rattle.mm_check.specs.Reply.{AsksHanded}
 use Rattle.mm_check.specs.declared.command.Command.TheVariants.{File, Shorter}
 use Rattle.mm_tool.specs.ReadFiles.{IsReadAs}

@@ -12,7 +12,7 @@ use Rattle.std.proofs.lemmas.List.Elements.{Contains-append_left, Contains-appen
 use Rattle.std.specs.List.{AllByRecursion, flat_map, position, position_or_len, join_by}
 use Rattle.std.specs.List.{slice_split}
 use Rattle.std.specs.Str.{bytes_eq}
-use Rattle.mm_text.proofs.Lists.{all_append, all_push, all_weaker}
+use Rattle.mm_base.proofs.Lists.{all_append, all_push, all_weaker}
 use Rattle.mm_text.proofs.Inclusions.OpenFiles.{position-names}
 use borrow.Author.Tests.{ltb-true}
 use Rattle.std.specs.Global.{Vec}

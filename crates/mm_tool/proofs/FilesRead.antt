@@ -7,7 +7,8 @@ use Rattle.std.proofs.Common.{if◌then◌else◌, inr}
 use Rattle.std.proofs.Math.Seq.{drop-cons}
 use Rattle.std.proofs.lemmas.List.{map-append, take_more, length-map}
 use Rattle.std.specs.List.{AllByRecursion, AllZip, range_with_len}
-use Rattle.mm_text.specs.Files.{PlainFile, total_bytes, most_bytes, plain_file, BreaksLoad}
+use Rattle.mm_text.specs.Files.{PlainFile, total_bytes, plain_file, BreaksLoad}
+use Rattle.mm_base.specs.MostBytes.{most_bytes}
 use Rattle.mm_tool.proofs.AskedWords.{texts_in}
 use Rattle.mm_tool.specs.Folder.{ComesNext, IsFileFault, IsHeld, KnownFile, MayHold, Unknown}
 use Rattle.mm_tool.specs.Folder.{Absent, Holds}
@@ -28,9 +29,9 @@ use Rattle.mm_tool.specs.declared.files.Comments.TheVariants.{Kept, LeftOut}
 use Rattle.mm_tool.specs.ReadFiles.{IsReadAs}
 use Rattle.std.proofs.lemmas.Option.{slice_get-get_or}
 use Rattle.mm_text.specs.declared.fault.LoadRule.{LoadRule}
-use Rattle.mm_text.specs.declared.file.File.{File}
+use Rattle.mm_base.specs.declared.file.File.{File}
 use Rattle.mm_text.specs.Included.{AlikeFilesLeaveOutTheSame, is_left_out, left_out}
-use Rattle.mm_text.proofs.Lists.{all_at, all_weaker}
+use Rattle.mm_base.proofs.Lists.{all_at, all_weaker}
 use Rattle.mm_check.proofs.AlikeVerdicts.{alike_back, breaks_alike, name_alike}
 use Rattle.mm_tool.specs.Ending.{label_of}
 use Rattle.mm_explain.specs.Near.{IsLabelIn}

@@ -8,7 +8,8 @@ ghost use Rattle.std.specs.declared.io.ErrorKind.TheVariants.{OutOfMemory};
 ghost use Rattle.mm_tool.specs.Folder.{KnownFile, MayHold, Unknown};
 ghost use Rattle.mm_tool.specs.declared.folder.ArgumentFault.TheVariants.{Memory};
 
-use mm_text::{Seed, Source};
+use mm_base::Seed;
+use mm_text::Source;
 use std::alloc::{AllocError, AllocGlobal, Global};
 use std::env::Env;
 use std::fs::OpenFile;

@@ -23,10 +23,11 @@ mod words;
 
 ghost use Rattle.std.specs.Int.{from_le_bytes, w64};
 ghost use Rattle.std.specs.Prelude.{◌≡◌, OnErr, OnOk};
-ghost use Rattle.mm_text.specs.Seed.{known_number, seed_of};
+ghost use Rattle.mm_base.specs.Seed.{known_number, seed_of};
 
 use folder::{Host, Resources};
-use mm_text::{Counted, Seed};
+use mm_base::Seed;
+use mm_text::Counted;
 use pages::program_pages;
 use progress_line::ProgressLine;
 use rules::rule_chapters;

@@ -8,9 +8,9 @@ ghost use Rattle.mm_tool.specs.Notes.{unknown_text as unknown_text_of};
 
 use crate::notes::notes_on;
 use crate::unread::asked_label;
+use mm_base::{File, Seed};
 use mm_check::Command;
 use mm_explain::nearest_label;
-use mm_text::{File, Seed};
 use std::alloc::{AllocError, Global};
 
 /// The reply that no statement has this label.

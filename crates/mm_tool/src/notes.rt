@@ -5,7 +5,8 @@ ghost use Rattle.mm_text.specs.Files.{plain_file};
 ghost use Rattle.mm_tool.specs.Notes.{AreLeftOut, AreNotesOn, count_note, more_note, note_of};
 
 use itoa::Buffer;
-use mm_text::{File, Seed, left_out};
+use mm_base::{File, Seed};
+use mm_text::left_out;
 use std::alloc::{AllocError, Global};
 
 /// How many files have a line of their own.

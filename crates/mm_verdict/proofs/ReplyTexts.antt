@@ -14,10 +14,10 @@ use Rattle.mm_rules.specs.Answer.{labels_at, plain_refusal, verdict_of_conclusio
 use Rattle.mm_rules.specs.Answer.{verdict_where_incomplete}
 use Rattle.mm_rules.specs.Conclusion.{Conclusion}
 use Rattle.std.specs.List.{AllByRecursion}
-use Rattle.mm_text.proofs.Lists.{get_within}
+use Rattle.mm_base.proofs.Lists.{get_within}
 use Rattle.mm_verdict.specs.Reply.{line_with, lines_of, refusals_text, text_of}
 use Rattle.mm_rules.specs.Verdict.{Refused, HasVerdict, AreAccepted}
-use Rattle.mm_text.specs.Statement.{PlainStatement}
+use Rattle.mm_base.specs.Statement.{PlainStatement}
 use Rattle.mm_step.specs.declared.profile.Profile.{Profile}
 use Rattle.mm_verdict.specs.Faults.{refusal_in}
 

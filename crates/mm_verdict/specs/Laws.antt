@@ -1,6 +1,6 @@
 -- Laws of verdicts over files, and of reports.
 use Rattle.std.specs.Prelude.{◌≡◌, ◌⊎◌, ℕ, List}
-use Rattle.mm_text.specs.Statement.{PlainStatement}
+use Rattle.mm_base.specs.Statement.{PlainStatement}
 use Rattle.mm_text.specs.Files.{PlainFile}
 use Rattle.mm_step.specs.declared.fault.ProofRule.TheVariants.{P15, L1}
 use Rattle.mm_step.specs.declared.profile.Profile.{Profile}

@@ -2,10 +2,10 @@
 -- (the Metamath book, section 4.2.7). The text is this project's own.
 use Rattle.std.specs.Prelude.{◌≡◌, ℕ, List, [], ◌∷◌, ◌++◌, take, slice_get, unwrap_or, Some, codes}
 use Rattle.std.specs.List.{flat_map}
-use Rattle.mm_text.specs.declared.statement.Kind.{Kind}
-use Rattle.mm_text.specs.declared.statement.Kind.TheVariants.{Axiom, Provable}
+use Rattle.mm_base.specs.declared.statement.Kind.{Kind}
+use Rattle.mm_base.specs.declared.statement.Kind.TheVariants.{Axiom, Provable}
 use Rattle.mm_text.specs.Files.{PlainFile}
-use Rattle.mm_text.specs.Statement.{PlainStatement, keyword_of}
+use Rattle.mm_base.specs.Statement.{PlainStatement, keyword_of}
 use Rattle.mm_frame.specs.Sentence.{Sentence, sentence_of, IsLabelled}
 use Rattle.mm_frame.specs.Frame.{AreMandatory, AreFurther}
 use Rattle.mm_rules.specs.declared.ask.AskFault.{AskFault}

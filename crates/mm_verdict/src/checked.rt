@@ -7,10 +7,11 @@ ghost use Rattle.std.specs.List.{AllByRecursion};
 
 use crate::reread::{proof_of, reader, reread};
 use crate::theorem::{Theorem, theorem_of};
+use mm_base::{File, Statement};
 use mm_frame::{Book, Found, LabelId, LabelKind};
 use mm_rules::{AskFault, AskRule, Kept, Progress, is_among};
 use mm_step::Profile;
-use mm_text::{File, Statement, Statements};
+use mm_text::Statements;
 use std::alloc::Global;
 use std::marker::Model;
 
@@ -53,7 +54,7 @@ impl<'a> Model for Checked<'a> {
 }
 
 impl<'a> Checked<'a> {
-    ghost use Rattle.mm_text.specs.Statement.{PlainStatement};
+    ghost use Rattle.mm_base.specs.Statement.{PlainStatement};
     ghost use Rattle.mm_text.specs.Files.{plain_file};
     ghost use Rattle.mm_text.specs.Reading.{Reads};
     ghost use Rattle.mm_frame.specs.Numbers.{labelled_sentences};
@@ -70,7 +71,7 @@ impl<'a> Checked<'a> {
     ghost use Rattle.mm_verdict.specs.Mirror.Rewriting.{IsHomeOf};
     ghost use Rattle.mm_verdict.specs.Mirror.Rereading.{IsTheoremIn, label_count};
     ghost use Rattle.mm_text.specs.Remaining.{IsUnread};
-    ghost use Rattle.mm_text.specs.Statement.{plain_statement};
+    ghost use Rattle.mm_base.specs.Statement.{plain_statement};
     ghost use Rattle.mm_frame.specs.Sentence.{sentence_in, IsLabelled};
 
     /// What the progress over the files has come to in the profile, once nothing is left.

@@ -10,10 +10,10 @@ ghost use Rattle.mm_verdict.specs.declared.faults.AllFaults.TheVariants.{Memory}
 
 use crate::checked::Checked;
 use crate::verdict::{conclude, judge_files};
+use mm_base::{File, Seed, Statement};
 use mm_frame::Book;
 use mm_rules::{CheckFault, Judged, Refusal, Rule, Stop, Visitor};
 use mm_step::Profile;
-use mm_text::{File, Seed, Statement};
 use std::alloc::{AllocError, Global};
 use thiserror::Error;
 

@@ -17,12 +17,13 @@ ghost use Rattle.mm_rules.specs.Answer.{verdict_of_fault, verdict_of_answer};
 ghost use Rattle.mm_rules.specs.Status.{number_of};
 
 use crate::checked::Checked;
+use mm_base::File;
 use mm_frame::LabelId;
 use mm_rules::{
     AskFault, AskRule, CheckFault, Refusal, Rule, Status, name_of, push_number, push_word,
 };
 use mm_step::ProofRule;
-use mm_text::{File, LoadRule};
+use mm_text::LoadRule;
 use std::alloc::{AllocError, Global};
 
 /// The text of a reply, and the status that goes with it.

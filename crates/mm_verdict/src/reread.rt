@@ -1,8 +1,8 @@
 //! Statements of checked files, read again: `check` keeps no proof.
 
 ghost use Rattle.std.specs.Prelude.{◌≡◌, ◌↔◌, List, map, true, None, Ok, OnOk, IfOk, IfErr, IsTrue};
-ghost use Rattle.mm_text.specs.Statement.{PlainStatement, plain_statement, HasForm};
-ghost use Rattle.mm_text.specs.Token.{plain_token};
+ghost use Rattle.mm_base.specs.Statement.{PlainStatement, plain_statement, HasForm};
+ghost use Rattle.mm_base.specs.Token.{plain_token};
 ghost use Rattle.mm_text.specs.Files.{plain_file};
 ghost use Rattle.mm_text.specs.Reading.{Reads};
 ghost use Rattle.mm_text.specs.Remaining.{IsUnread};
@@ -13,8 +13,9 @@ ghost use Rattle.mm_rules.specs.Verdict.{CanBeRead, proof_of};
 ghost use Rattle.mm_verdict.specs.Mirror.Judged.{TakesNext};
 ghost use Rattle.mm_rules.specs.Shown.{Stands};
 
+use mm_base::{File, Seed, Statement, Token};
 use mm_rules::AskFault;
-use mm_text::{File, Seed, Statement, Statements, TextFault, Token};
+use mm_text::{Statements, TextFault};
 use std::alloc::{AllocError, Global};
 
 /// Whether a statement has a label.

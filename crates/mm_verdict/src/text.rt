@@ -3,9 +3,9 @@
 ghost use Rattle.std.specs.Prelude.{◌≡◌, ◌<◌, ◌≤◌, ◌==◌, map, take, length, slice_index, true};
 ghost use Rattle.std.specs.Prelude.{IfOk, IfErr};
 ghost use Rattle.std.specs.List.{list_any, list_all, sum_by};
-ghost use Rattle.mm_text.specs.Token.{is_printable, is_space as is_white_space, plain_token};
-ghost use Rattle.mm_text.specs.Token.{tokens_from};
-ghost use Rattle.mm_text.specs.Files.{most_bytes};
+ghost use Rattle.mm_base.specs.Token.{is_printable, is_space as is_white_space, plain_token};
+ghost use Rattle.mm_base.specs.Token.{tokens_from};
+ghost use Rattle.mm_base.specs.MostBytes.{most_bytes};
 ghost use Rattle.mm_code.specs.Layout.{texts};
 ghost use Rattle.mm_code.specs.Words.{texts_of, tokens_in, LacksWhiteSpace};
 ghost use Rattle.mm_proof.specs.Tokens.{is_incomplete};
@@ -15,9 +15,10 @@ ghost use Rattle.mm_verdict.specs.Mirror.Comparisons.{IsIllegal};
 ghost use Rattle.mm_verdict.specs.Mirror.Reached.{HasNoTokens};
 
 use crate::reread::read_texts;
+use mm_base::Token;
 use mm_proof::is_unknown;
 use mm_rules::{AskFault, AskRule, Rule};
-use mm_text::{BYTE_LIMIT, LoadRule, TextRule, Token};
+use mm_text::{BYTE_LIMIT, LoadRule, TextRule};
 use std::alloc::{AllocError, Global};
 
 /// Whether a byte is white space.
@@ -111,7 +112,7 @@ fn has_dollar(token: &[u8]) -> bool
 }
 
 /// Whether some token holds a `$`.
-#[tactic(auto, using(mm_text::proofs::Lists::any_found))]
+#[tactic(auto, using(mm_base::proofs::Lists::any_found))]
 fn any_dollar(tokens: &[&[u8]]) -> bool
     ensures { result ≡ hold_dollar (texts tokens.now) }
 {
@@ -124,7 +125,7 @@ fn any_dollar(tokens: &[&[u8]]) -> bool
 }
 
 /// Whether some token holds a `?`.
-#[tactic(auto, using(mm_text::proofs::Lists::any_found))]
+#[tactic(auto, using(mm_base::proofs::Lists::any_found))]
 fn any_question(tokens: &[&[u8]]) -> bool
     ensures { result ≡ is_incomplete (texts tokens.now) }
 {

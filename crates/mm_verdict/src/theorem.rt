@@ -1,19 +1,19 @@
 //! A theorem and the steps of its proof.
 
 ghost use Rattle.std.specs.Prelude.{◌≡◌, ◌≤◌, map, length, sum_by, false, IfOk, IfErr};
-ghost use Rattle.mm_text.specs.Statement.{plain_statement};
-ghost use Rattle.mm_text.specs.Files.{most_bytes};
+ghost use Rattle.mm_base.specs.Statement.{plain_statement};
+ghost use Rattle.mm_base.specs.MostBytes.{most_bytes};
 ghost use Rattle.mm_proof.specs.Parsed.{OfProof, SaySteps};
 ghost use Rattle.mm_step.specs.Steps.{AreSteps};
 ghost use Rattle.mm_rules.specs.declared.ask.AskFault.TheVariants.{Memory};
 ghost use Rattle.mm_rules.specs.Verdict.{proof_of};
 ghost use Rattle.mm_verdict.specs.Mirror.Theorems.{IsProofOf, AreProvedSteps, SayStepsOf};
 
+use mm_base::Statement;
 use mm_frame::{Book, LabelId};
 use mm_proof::{Parsed, Steps, StepsReader};
 use mm_rules::AskFault;
 use mm_step::{Profile, ProofFault};
-use mm_text::Statement;
 use std::alloc::Global;
 
 /// A `$p` whose proof is complete, by its number: the steps of that proof, which are those of the

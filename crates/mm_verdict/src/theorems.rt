@@ -1,15 +1,16 @@
 //! The theorems of checked files, read again one after the other.
 
 ghost use Rattle.std.specs.Prelude.{◌≡◌, [], List, IfOk, IfErr};
-ghost use Rattle.mm_text.specs.Statement.{PlainStatement};
+ghost use Rattle.mm_base.specs.Statement.{PlainStatement};
 ghost use Rattle.mm_rules.specs.declared.ask.AskFault.TheVariants.{Memory};
 
 use crate::checked::Checked;
 use crate::reread::read_on;
 use crate::watch::SoFar;
+use mm_base::Statement;
 use mm_frame::LabelId;
 use mm_rules::AskFault;
-use mm_text::{Statement, Statements};
+use mm_text::Statements;
 use std::alloc::Global;
 
 /// The statements of checked files, read again up to one of them.

@@ -1,8 +1,8 @@
 //! The verdict over a database.
 
 ghost use Rattle.std.specs.Prelude.{◌≡◌, ◌⊎◌, true, map, option_map, [], IfOk, IfErr, OnOk, Ok};
-ghost use Rattle.mm_text.specs.Token.{plain_token};
-ghost use Rattle.mm_text.specs.Statement.{plain_statement, HasForm};
+ghost use Rattle.mm_base.specs.Token.{plain_token};
+ghost use Rattle.mm_base.specs.Statement.{plain_statement, HasForm};
 ghost use Rattle.mm_text.specs.Files.{plain_file};
 ghost use Rattle.mm_text.specs.Remaining.{IsUnread};
 ghost use Rattle.mm_step.specs.declared.profile.Profile.TheVariants.{Lenient};
@@ -17,6 +17,7 @@ ghost use Rattle.mm_verdict.specs.Mirror.Judged.{IsRead, IsAtEnd, StopsTurn, Tur
 ghost use Rattle.mm_verdict.specs.Mirror.Visits.{IsVisiting, HasVisited, HasStopped};
 
 use crate::checked::Checked;
+use mm_base::{File, Seed, Statement, Token};
 use mm_frame::RuleFault;
 use mm_proof::Prover;
 use mm_rules::judge::judge;
@@ -25,7 +26,7 @@ use mm_rules::{
     size_of,
 };
 use mm_step::Profile;
-use mm_text::{File, Seed, Statement, Statements, TextFault, TextRule, Token};
+use mm_text::{Statements, TextFault, TextRule};
 use std::alloc::{AllocError, Global};
 
 /// A reader of the files, or why they can't be taken as a whole.

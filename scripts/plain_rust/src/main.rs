@@ -24,6 +24,7 @@ mod mm_places;
 mod mm_distinct;
 mod mm_forms;
 mod mm_shorten;
+mod mm_base;
 mod mm_text;
 mod mm_tool;
 

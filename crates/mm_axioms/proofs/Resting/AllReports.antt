@@ -5,7 +5,7 @@ use Rattle.std.proofs.Common.{sym, ap, subst, ◌∙◌, arith}
 use Rattle.std.proofs.lemmas.Bool.{cases_eq, cases_lt}
 use Rattle.std.proofs.lemmas.List.{map-append}
 use Rattle.std.proofs.lemmas.Option.{slice_get_within}
-use Rattle.mm_text.specs.declared.statement.Kind.{Kind}
+use Rattle.mm_base.specs.declared.statement.Kind.{Kind}
 use Rattle.mm_frame.specs.declared.number.LabelId.{LabelId}
 use Rattle.mm_frame.specs.declared.number.LabelKind.{LabelKind}
 use Rattle.mm_frame.specs.declared.number.LabelKind.TheVariants as label_kinds
@@ -13,8 +13,8 @@ use Rattle.mm_frame.specs.Numbers.{labelled_sentences, IsNumbered, IsLabelNumber
 use Rattle.mm_frame.specs.Sentence.{Sentence}
 use Rattle.mm_frame.specs.Taken.{kind_behind}
 use Rattle.mm_frame.proofs.Names.LabelNumbers.{numbered_get, numbered_some, numbered_within}
-use Rattle.mm_text.proofs.Lists.{at_from_contains, contains_from_at}
-use Rattle.mm_text.proofs.Lists.{all_within}
+use Rattle.mm_base.proofs.Lists.{at_from_contains, contains_from_at}
+use Rattle.mm_base.proofs.Lists.{all_within}
 use Rattle.mm_step.specs.Plain.{ids_in}
 use Rattle.mm_rules.specs.Rests.{AreRising, AreInOrder}
 use Rattle.mm_axioms.specs.Mirror.Bits.{has_bit}
@@ -25,8 +25,8 @@ use Rattle.std.proofs.Common.{Option, None}
 use Rattle.std.specs.List.{AllByRecursion}
 use Rattle.std.proofs.lemmas.List.{take_more}
 use Rattle.std.proofs.lemmas.Option.{same_Some}
-use Rattle.mm_text.specs.declared.statement.Kind.TheVariants.{Provable}
-use Rattle.mm_text.specs.Statement.{PlainStatement}
+use Rattle.mm_base.specs.declared.statement.Kind.TheVariants.{Provable}
+use Rattle.mm_base.specs.Statement.{PlainStatement}
 use Rattle.mm_frame.specs.Rules.{AllMeant}
 use Rattle.mm_frame.specs.Sentence.{sentence_of}
 use Rattle.mm_proof.specs.Tokens.{is_incomplete}

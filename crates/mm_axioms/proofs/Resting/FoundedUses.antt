@@ -2,7 +2,7 @@
 use Rattle.std.proofs.Common.{◌≡◌, ℕ, List, [], slice_get, slice_index_or, true, Some}
 use Rattle.std.proofs.Common.{inl, inr, sym, ap, ◌∙◌}
 use Rattle.mm_frame.specs.Sentence.{Sentence}
-use Rattle.mm_text.proofs.Lists.{at_from_contains}
+use Rattle.mm_base.proofs.Lists.{at_from_contains}
 use Rattle.mm_step.specs.Plain.{ids_in}
 use Rattle.mm_axioms.specs.declared.report.Tables.{Tables}
 use Rattle.mm_rules.specs.Conclusion.{ProofUses}

@@ -10,15 +10,15 @@ use Rattle.std.proofs.lemmas.Bool.{cases_eq}
 use Rattle.std.proofs.lemmas.Option.{slice_get_within}
 use Rattle.mm_frame.proofs.Names.NameNumbers.{get_mapped}
 use Rattle.mm_frame.specs.declared.number.LabelId.{LabelId}
-use Rattle.mm_text.proofs.Lists.{take_next, get_from_take, at_from_contains, contains_from_at}
+use Rattle.mm_base.proofs.Lists.{take_next, get_from_take, at_from_contains, contains_from_at}
 use Rattle.mm_step.specs.Plain.{ids_in}
 use Rattle.mm_rules.specs.Conclusion.{ProofUses}
 use Rattle.mm_rules.specs.Rests.{AreRising, AreInOrder, RestsOn, IsNumberWhere, IsNamed, Uses}
 use Rattle.mm_rules.specs.Mirror.Marks.{IsMarked, UsedIn, AreBackward}
 use Rattle.mm_rules.proofs.Numbers.{holds_last, holds_cases, in_order_push, in_order_same}
 use Rattle.mm_rules.proofs.Numbers.{rising_above, holds_first, holds_later, rising_tail, holds_cons}
-use Rattle.mm_text.specs.declared.statement.Kind.TheVariants.{Axiom}
-use Rattle.mm_text.specs.Statement.{PlainStatement}
+use Rattle.mm_base.specs.declared.statement.Kind.TheVariants.{Axiom}
+use Rattle.mm_base.specs.Statement.{PlainStatement}
 use Rattle.mm_frame.specs.Sentence.{sentence_of}
 use Rattle.mm_frame.specs.Rules.{AllMeant}
 use Rattle.mm_frame.specs.Numbers.{labelled_sentences}

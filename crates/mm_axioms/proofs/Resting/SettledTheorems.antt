@@ -12,7 +12,7 @@ use Rattle.std.proofs.lemmas.Option.{slice_get_within, get_or_from_slice_get}
 use Rattle.std.proofs.lemmas.List.Elements.{Contains-append_left}
 use Rattle.mm_frame.specs.declared.number.LabelId.{LabelId}
 use Rattle.mm_frame.proofs.Names.NameNumbers.{get_mapped}
-use Rattle.mm_text.proofs.Lists.{at_from_contains, contains_from_at, get_pushed}
+use Rattle.mm_base.proofs.Lists.{at_from_contains, contains_from_at, get_pushed}
 use Rattle.mm_step.specs.Plain.{ids_in}
 use Rattle.mm_rules.specs.Conclusion.{ProofUses, numbers_of}
 use Rattle.mm_rules.specs.Rests.{RestsOn}

@@ -16,9 +16,9 @@ use Rattle.mm_frame.specs.Rules.{AllMeant}
 use Rattle.mm_frame.specs.Sentence.{IsAssertion}
 use Rattle.mm_frame.proofs.Names.NameNumbers.{get_mapped}
 use Rattle.mm_frame.proofs.Names.LabelNumbers.{numbered_within}
-use Rattle.mm_text.specs.Statement.{PlainStatement}
-use Rattle.mm_text.proofs.Lists.{take_next, get_from_take, at_from_contains, contains_from_at}
-use Rattle.mm_text.proofs.Lists.{all_within}
+use Rattle.mm_base.specs.Statement.{PlainStatement}
+use Rattle.mm_base.proofs.Lists.{take_next, get_from_take, at_from_contains, contains_from_at}
+use Rattle.mm_base.proofs.Lists.{all_within}
 use Rattle.mm_step.specs.Plain.{ids_in}
 use Rattle.mm_rules.specs.Conclusion.{ProofUses, Conclusion, numbers_of, labels_in}
 use Rattle.mm_rules.specs.Answer.{IsKeptOf}

@@ -10,9 +10,9 @@ use Rattle.std.proofs.lemmas.Option.{slice_get_within}
 use Rattle.std.proofs.lemmas.List.{map-append}
 use Rattle.std.proofs.lemmas.List.Elements.{Contains-push, Contains-push_cases}
 use Rattle.std.proofs.lemmas.List.Elements.{Contains-append_left}
-use Rattle.mm_text.proofs.Lists.{contains_from_at, all_within}
+use Rattle.mm_base.proofs.Lists.{contains_from_at, all_within}
 use Rattle.mm_frame.specs.declared.number.Sym.{Sym}
-use Rattle.mm_text.specs.declared.statement.Kind.TheVariants.{Constants}
+use Rattle.mm_base.specs.declared.statement.Kind.TheVariants.{Constants}
 use Rattle.mm_frame.specs.Sentence.{Sentence, Declares}
 use Rattle.mm_frame.specs.Active.{IsVariable}
 use Rattle.mm_frame.specs.Frame.{IsDistinct}

@@ -4,8 +4,8 @@ use Rattle.std.proofs.Common.{Contains}
 use Rattle.std.proofs.Common.{◌⊎◌, inl, inr, ⊎_elim, sym, ap, subst, ◌∙◌, arith}
 use Rattle.std.proofs.lemmas.Option.{same_Some, slice_get_within}
 use Rattle.std.proofs.lemmas.List.{take-append-drop}
-use Rattle.mm_text.specs.declared.statement.Kind.TheVariants.{Variables}
-use Rattle.mm_text.proofs.Lists.{contains_from_at, all_within}
+use Rattle.mm_base.specs.declared.statement.Kind.TheVariants.{Variables}
+use Rattle.mm_base.proofs.Lists.{contains_from_at, all_within}
 use Rattle.mm_frame.specs.Sentence.{Sentence, Declares}
 use Rattle.mm_frame.specs.Active.{IsVariable}
 use Rattle.mm_frame.specs.Frame.{IsDistinct}

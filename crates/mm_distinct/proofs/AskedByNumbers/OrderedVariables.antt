@@ -23,7 +23,7 @@ use Rattle.std.proofs.lemmas.List.Kept.{Contains-dedup, Contains-from_dedup}
 use Rattle.std.proofs.lemmas.List.Kept.{IsStrictlySortedBy-dedup}
 use Rattle.std.proofs.lemmas.List.Sorted.{IsPermutation-keeps, IsPermutation-map, sorted_far}
 use Rattle.std.proofs.lemmas.List.Sorted.{ranks_by, Contains-permutation, IsPermutation-sym}
-use Rattle.mm_text.proofs.Lists.{contains_from_at, at_from_contains, zip_left, zip_right, all_at}
+use Rattle.mm_base.proofs.Lists.{contains_from_at, at_from_contains, zip_left, zip_right, all_at}
 use Rattle.mm_frame.specs.declared.number.Sym.{Sym}
 use Rattle.mm_step.specs.Stores.{numbers_in}
 use Rattle.mm_step.specs.Mirror.CodeRun.{DoRise}

@@ -7,7 +7,7 @@ use Rattle.std.proofs.Common.{subst, ◌∙◌, arith}
 use Rattle.std.specs.List.{AllZip}
 use Rattle.std.proofs.lemmas.Bool.{cases_lt}
 use Rattle.std.proofs.lemmas.Option.{same_Some, none-some}
-use Rattle.mm_text.proofs.Lists.{get_take, get_from_take}
+use Rattle.mm_base.proofs.Lists.{get_take, get_from_take}
 use Rattle.mm_frame.specs.Sentence.{Sentence}
 use Rattle.mm_step.specs.Mirror.CodeVerify.{SomePairValues, value_of}
 use Rattle.mm_step.specs.Mirror.CodeVariables.{HasItsVariables}

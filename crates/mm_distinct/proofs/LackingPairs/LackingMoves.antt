@@ -7,7 +7,7 @@ use Rattle.std.proofs.Common.{refl}
 use Rattle.std.proofs.Common.{sym, ap, subst, ◌∙◌, arith, append_assoc, append-nil}
 use Rattle.std.proofs.lemmas.Bool.{false≢true}
 use Rattle.std.proofs.lemmas.List.{length-append, length-map}
-use Rattle.mm_text.proofs.Lists.{all_push, all_at, all_back, zip_front}
+use Rattle.mm_base.proofs.Lists.{all_push, all_at, all_back, zip_front}
 use Rattle.mm_frame.specs.Sentence.{Sentence}
 use Rattle.mm_frame.specs.Rules.{AllMeant}
 use Rattle.mm_frame.proofs.Rules.ObeyedRules.{allmeant_prefix}

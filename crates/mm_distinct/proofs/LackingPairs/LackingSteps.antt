@@ -6,8 +6,8 @@ use Rattle.std.proofs.Common.{refl}
 use Rattle.std.proofs.Common.{sym, ap, subst, ◌∙◌, arith, Bool, true, false, MatchBool}
 use Rattle.std.proofs.lemmas.Option.{same_Some}
 use Rattle.std.proofs.lemmas.List.{length-map, length-drop}
-use Rattle.mm_text.specs.declared.statement.Kind.TheVariants.{Variables}
-use Rattle.mm_text.proofs.Lists.{get_take, all_at, at_from_contains}
+use Rattle.mm_base.specs.declared.statement.Kind.TheVariants.{Variables}
+use Rattle.mm_base.proofs.Lists.{get_take, all_at, at_from_contains}
 use Rattle.mm_frame.specs.Sentence.{Sentence, IsHypothesis, Declares}
 use Rattle.mm_frame.specs.Active.{IsVariable}
 use Rattle.mm_frame.specs.Frame.{IsDistinct}

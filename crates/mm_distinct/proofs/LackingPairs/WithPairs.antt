@@ -6,8 +6,8 @@ use Rattle.std.proofs.Common.{slice_get, Contains, Some, None, ◌⊎◌, inl, i
 use Rattle.std.proofs.Common.{subst, ◌∙◌, arith, append-nil, append_assoc, option_map}
 use Rattle.std.proofs.lemmas.Option.{slice_get_within, slice_get-map}
 use Rattle.std.proofs.lemmas.List.{take-append-le, length-append}
-use Rattle.mm_text.specs.declared.statement.Kind.TheVariants.{Distinct, Variables}
-use Rattle.mm_text.proofs.Lists.{get_kept, get_after, append_cases, at_from_contains}
+use Rattle.mm_base.specs.declared.statement.Kind.TheVariants.{Distinct, Variables}
+use Rattle.mm_base.proofs.Lists.{get_kept, get_after, append_cases, at_from_contains}
 use Rattle.mm_frame.specs.Sentence.{Sentence, IsLabelled}
 use Rattle.mm_frame.specs.Active.{IsActive, IsVariable}
 use Rattle.mm_frame.specs.Frame.{IsMandatory, AreMandatory, IsDistinct, IsMandatoryPair}

@@ -3,13 +3,14 @@ use Rattle.std.proofs.Common.{◌≡◌, ℕ, List, [], ◌∷◌, ◌++◌, len
 use Rattle.std.proofs.Common.{inl, inr, refl, sym, ap, subst, ◌∙◌, arith, append_assoc}
 use Rattle.std.proofs.Common.{take, ◌-◌, ◌<◌, ◌≤◌, ◌^◌, sum_by}
 use Rattle.std.proofs.lemmas.List.{map-append, length-append, length-map}
-use Rattle.mm_text.specs.declared.statement.Kind.{Kind}
-use Rattle.mm_text.specs.declared.statement.Kind.TheVariants as kinds
-use Rattle.mm_text.specs.Files.{PlainFile, most_bytes}
+use Rattle.mm_base.specs.declared.statement.Kind.{Kind}
+use Rattle.mm_base.specs.declared.statement.Kind.TheVariants as kinds
+use Rattle.mm_text.specs.Files.{PlainFile}
+use Rattle.mm_base.specs.MostBytes.{most_bytes}
 use Rattle.mm_text.specs.Reading.{PlainFault, Reads}
 use Rattle.mm_text.specs.Remaining.{Remaining, IsUnread}
-use Rattle.mm_text.specs.Statement.{PlainStatement, plain_statement, HasForm}
-use Rattle.mm_text.proofs.Lists.{get_parted, pushed_cases}
+use Rattle.mm_base.specs.Statement.{PlainStatement, plain_statement, HasForm}
+use Rattle.mm_base.proofs.Lists.{get_parted, pushed_cases}
 use Rattle.mm_text.proofs.Reader.WholeReadings.{readings_few}
 use Rattle.mm_frame.specs.declared.answer.Taken.{Taken}
 use Rattle.mm_frame.specs.declared.answer.Taken.TheVariants.{Assertion}

@@ -4,7 +4,7 @@ use Rattle.std.specs.Prelude.{◌≡◌, ℕ, ◌+◌, List, [], ◌∷◌, ◌+
 use Rattle.std.specs.Prelude.{Option, Some, None}
 use Rattle.mm_text.specs.Files.{PlainFile}
 use Rattle.mm_text.specs.Remaining.{Remaining}
-use Rattle.mm_text.specs.Statement.{PlainStatement, plain_statement, HasForm, bytes_in}
+use Rattle.mm_base.specs.Statement.{PlainStatement, plain_statement, HasForm, bytes_in}
 use Rattle.mm_frame.specs.Rules.{IsMeant, AllMeant}
 use Rattle.mm_frame.specs.Sentence.{Sentence, sentence_of}
 use Rattle.mm_frame.specs.Taken.{TakenAs}

@@ -3,9 +3,9 @@
 use Rattle.std.specs.Prelude.{◌≡◌, ℕ, ◌<◌, ◌≤◌, List, [], ◌∷◌, ◌++◌, map, take, length}
 use Rattle.std.specs.Prelude.{true, Option, option_map, ◌⊎◌}
 use Rattle.std.specs.List.{flat_map, AllZip, AllByRecursion}
-use Rattle.mm_text.specs.declared.token.Token.{Token}
-use Rattle.mm_text.specs.Token.{PlainToken, plain_token}
-use Rattle.mm_text.specs.Statement.{PlainStatement}
+use Rattle.mm_base.specs.declared.token.Token.{Token}
+use Rattle.mm_base.specs.Token.{PlainToken, plain_token}
+use Rattle.mm_base.specs.Statement.{PlainStatement}
 use Rattle.mm_text.specs.Files.{PlainFile, plain_file}
 use Rattle.mm_text.specs.Reading.{PlainFault, Reads}
 use Rattle.mm_frame.specs.Sentence.{Sentence}

@@ -3,11 +3,11 @@
 use Rattle.std.specs.Prelude.{◌≡◌, ℕ, ◌+◌, List, [], ◌∷◌, ◌++◌, drop, filter, map, slice_get}
 use Rattle.std.specs.Prelude.{is_some, Some}
 use Rattle.std.specs.List.{AllZip}
-use Rattle.mm_text.specs.Blocks.{AreBalanced, openings, closings}
+use Rattle.mm_base.specs.Blocks.{AreBalanced, openings, closings}
 use Rattle.mm_text.specs.Files.{PlainFile}
 use Rattle.mm_text.specs.Remaining.{Remaining}
-use Rattle.mm_text.specs.Statement.{PlainStatement}
-use Rattle.mm_text.specs.Token.{PlainToken, plain_token}
+use Rattle.mm_base.specs.Statement.{PlainStatement}
+use Rattle.mm_base.specs.Token.{PlainToken, plain_token}
 use Rattle.mm_frame.specs.Numbers.{labelled_sentences}
 use Rattle.mm_frame.specs.Sentence.{Sentence, SomeSentence, sentence_of, IsLabelled}
 use Rattle.mm_step.specs.Steps.{IsProofNumber}

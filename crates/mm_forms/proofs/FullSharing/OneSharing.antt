@@ -13,7 +13,7 @@ use Rattle.mm_proof.proofs.Members.{get_in, in_push, Once, in_get, contains_in, 
 use Rattle.mm_proof.proofs.Members.{once_indices}
 use Rattle.mm_forms.specs.BigSubtrees.{StandOnce}
 use Rattle.std.proofs.lemmas.Option.{same_Some, slice_get_within}
-use Rattle.mm_text.proofs.Lists.{get_kept}
+use Rattle.mm_base.proofs.Lists.{get_kept}
 use Rattle.mm_forms.specs.Sharing.{MakeOnce, KeepMade, ShareThose}
 
 -- ==== how steps make trees: each tree is repeated, or its children are made and then itself. Steps

@@ -5,7 +5,7 @@ use Rattle.std.proofs.Common.{◌⊎◌, inl, inr, ⊎_elim, refl, sym, ap, subs
 use Rattle.std.proofs.Common.{append-nil, ◌↔◌}
 use Rattle.std.specs.List.{AllZip}
 use Rattle.std.proofs.lemmas.List.{length-append, take_more}
-use Rattle.mm_text.proofs.Lists.{zip_append}
+use Rattle.mm_base.proofs.Lists.{zip_append}
 use Rattle.mm_frame.specs.Sentence.{Sentence}
 use Rattle.mm_forms.specs.declared.subtrees.Subtree.{Subtree}
 use Rattle.mm_forms.specs.declared.subtrees.Row.{Row}

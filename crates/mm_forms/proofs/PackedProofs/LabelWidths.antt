@@ -10,7 +10,7 @@ use Rattle.mm_frame.proofs.Names.LabelNumbers.{numbered_get}
 use Rattle.mm_step.specs.Tree.{Names, Trees, roots, MayStandOver}
 use Rattle.mm_step.specs.Mirror.CodeSteps.{MayBeUsed}
 use Rattle.mm_step.specs.Mirror.CodeApply.{IsEarlierScheme}
-use Rattle.mm_text.proofs.Lists.{get_take}
+use Rattle.mm_base.proofs.Lists.{get_take}
 use Rattle.mm_step.proofs.ProofSteps.OneStep.{hypothesis_or_assertion}
 use Rattle.mm_step.proofs.ProofSteps.OneStep.{one_names}
 use Rattle.mm_step.proofs.ByNumbers.NumberedSymbols.{as_many}

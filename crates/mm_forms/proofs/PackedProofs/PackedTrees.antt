@@ -4,8 +4,8 @@ use Rattle.std.proofs.Common.{Some, ◌↔◌, inl, inr, ⊎_elim, refl, sym, ap
 use Rattle.std.specs.List.{AllZip}
 use Rattle.std.proofs.lemmas.Option.{slice_get_within, slice_get-get_or, same_Some}
 use Rattle.std.proofs.lemmas.Slice.Zip.{AllZip-long}
-use Rattle.mm_text.proofs.Lists.{zip_push, zip_left, get_kept, get_pushed, zip_right, zip_append}
-use Rattle.mm_text.proofs.Lists.{zip_on, mapped_zip, get_from_take}
+use Rattle.mm_base.proofs.Lists.{zip_push, zip_left, get_kept, get_pushed, zip_right, zip_append}
+use Rattle.mm_base.proofs.Lists.{zip_on, mapped_zip, get_from_take}
 use Rattle.mm_code.specs.declared.code.Code.{Code}
 use Rattle.mm_code.specs.declared.code.Code.TheVariants.{Number}
 use Rattle.mm_frame.specs.Sentence.{Sentence}

@@ -11,7 +11,7 @@ use Rattle.std.proofs.lemmas.List.{length-append, take_at, length-take, take_mor
 use Rattle.std.proofs.lemmas.List.Elements.{Contains-push, Contains-push_cases}
 use Rattle.std.proofs.lemmas.List.Elements.{Contains-append_left}
 use Rattle.std.proofs.lemmas.Slice.Zip.{AllZip-long}
-use Rattle.mm_text.proofs.Lists.{zip_push, zip_left, zip_take, zip_weaker}
+use Rattle.mm_base.proofs.Lists.{zip_push, zip_left, zip_take, zip_weaker}
 use Rattle.mm_frame.specs.Sentence.{Sentence}
 use Rattle.mm_frame.specs.Rules.{AllMeant}
 use Rattle.mm_forms.specs.declared.subtrees.Subtree.{Subtree}

@@ -7,7 +7,7 @@ use Rattle.std.specs.List.{IsDistinct, list_any}
 use Rattle.std.proofs.lemmas.Map.Keys.{IsDistinct-head, IsDistinct-tail}
 use Rattle.std.proofs.lemmas.Bool.{false≢true, eqb-true, and_parts, and_from}
 use Rattle.std.proofs.lemmas.Option.{same_Some, none-some}
-use Rattle.mm_text.proofs.Lists.{all_at, get_kept, zip_push, zip_right, zip_weaker}
+use Rattle.mm_base.proofs.Lists.{all_at, get_kept, zip_push, zip_right, zip_weaker}
 use Rattle.mm_forms.specs.declared.subtrees.Row.{Row}
 use Rattle.mm_forms.specs.Mirror.Subtrees.{AreOnce, KeepNumbers, StandsFor, IsTreeOf, AreTreesOf}
 use Rattle.mm_forms.specs.Mirror.Subtrees.{IsNumberOfRow, IsSubtreeOf, AreSubtreesOf}

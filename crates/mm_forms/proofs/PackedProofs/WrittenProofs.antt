@@ -4,7 +4,7 @@ use Rattle.std.proofs.Common.{◌≡◌, ℕ, List, [], ◌∷◌, ◌++◌, dro
 use Rattle.std.proofs.Common.{Some, inl, inr, refl, sym, ap, subst, arith, append_assoc, ⊎_elim}
 use Rattle.std.proofs.Common.{zero, suc, ◌≤◌, length, ◌∙◌, flat_map}
 use Rattle.std.proofs.lemmas.List.Elements.{Contains-append_left, Contains-append_right}
-use Rattle.mm_text.proofs.Lists.{get_before, get_parted}
+use Rattle.mm_base.proofs.Lists.{get_before, get_parted}
 use Rattle.mm_code.specs.declared.code.Code.{Code}
 use Rattle.mm_code.specs.declared.code.CodeRule.{CodeRule}
 use Rattle.mm_code.specs.Letters.{Letters, LettersBreak}

@@ -10,8 +10,8 @@ use Rattle.std.proofs.lemmas.List.Sorted.{length_permutation}
 use Rattle.std.proofs.lemmas.List.{length-append}
 use Rattle.std.proofs.lemmas.Option.{same_Some, slice_get_within, slice_get-get_or}
 use Rattle.std.proofs.lemmas.Option.{get_or_from_slice_get}
-use Rattle.mm_text.proofs.Lists.{zip_left, zip_right, zip_length, get_after, get_kept, append_cases}
-use Rattle.mm_text.proofs.Lists.{contains_from_at, at_from_contains}
+use Rattle.mm_base.proofs.Lists.{zip_left, zip_right, zip_length, get_after, get_kept, append_cases}
+use Rattle.mm_base.proofs.Lists.{contains_from_at, at_from_contains}
 use Rattle.mm_code.specs.declared.code.Code.{Code}
 use Rattle.mm_code.specs.declared.code.Code.TheVariants.{Number, Tag}
 use Rattle.mm_forms.specs.declared.small.LabelUse.{LabelUse}

@@ -5,7 +5,7 @@ use Rattle.std.proofs.Common.{All, inl, inr}
 use Rattle.std.specs.List.{AllZip}
 use Rattle.std.proofs.lemmas.List.{length-map}
 use Rattle.std.proofs.lemmas.Option.{same_Some, get_or_from_slice_get, slice_get_within}
-use Rattle.mm_text.proofs.Lists.{zip_left, zip_right, zip_length, get_within, get_after}
+use Rattle.mm_base.proofs.Lists.{zip_left, zip_right, zip_length, get_within, get_after}
 use Rattle.mm_code.specs.declared.code.Code.{Code}
 use Rattle.mm_code.specs.declared.code.Code.TheVariants.{Number, Tag}
 use Rattle.mm_code.specs.Letters.{IsExact, largest}

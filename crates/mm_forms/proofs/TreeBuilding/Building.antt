@@ -7,7 +7,7 @@ use Rattle.std.proofs.lemmas.Option.{get_or_from_slice_get}
 use Rattle.std.proofs.lemmas.Slice.Zip.{AllZip-long}
 use Rattle.std.proofs.lemmas.List.{length-append, length-drop, take-append-drop, drop_all}
 use Rattle.std.proofs.lemmas.List.{drop_more, take_all}
-use Rattle.mm_text.proofs.Lists.{zip_push, zip_left, zip_right, all_at}
+use Rattle.mm_base.proofs.Lists.{zip_push, zip_left, zip_right, all_at}
 use Rattle.mm_frame.specs.Sentence.{Sentence}
 use Rattle.mm_frame.specs.Rules.{AllMeant}
 use Rattle.mm_step.specs.Tree.{Trees, none, tree, spelling, beside, roots, MayStandOver}

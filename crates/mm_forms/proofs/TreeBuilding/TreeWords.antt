@@ -8,8 +8,8 @@ use Rattle.std.specs.List.{AllZip, AllByRecursion}
 use Rattle.std.proofs.lemmas.Option.{same_Some, none-some, slice_get-map}
 use Rattle.std.proofs.lemmas.List.{length-append, map-append}
 use Rattle.std.proofs.Math.Seq.{take-append_seam, drop-append_seam}
-use Rattle.mm_text.proofs.Lists.{zip_push, zip_right, zip_take, zip_drop, zip_weaker, all_push}
-use Rattle.mm_text.proofs.Lists.{all_at}
+use Rattle.mm_base.proofs.Lists.{zip_push, zip_right, zip_take, zip_drop, zip_weaker, all_push}
+use Rattle.mm_base.proofs.Lists.{all_at}
 use Rattle.mm_frame.specs.declared.number.LabelId.{LabelId}
 use Rattle.mm_frame.specs.Sentence.{Sentence}
 use Rattle.mm_forms.specs.declared.words.Part.{Part}

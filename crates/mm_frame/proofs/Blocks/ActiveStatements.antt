@@ -6,16 +6,16 @@ use Rattle.std.proofs.lemmas.Bool.{cases_lt}
 use Rattle.mm_frame.specs.Sentence.{Sentence}
 use Rattle.mm_frame.specs.Active.{IsOpen, Holds, IsActive}
 use Rattle.mm_frame.specs.Mirror.Scopes.{IsUnclosed, AreScopes}
-use Rattle.mm_text.proofs.Lists.{get_from_front, get_in_front, get_kept, get_before}
+use Rattle.mm_base.proofs.Lists.{get_from_front, get_in_front, get_kept, get_before}
 use Rattle.mm_frame.proofs.Blocks.NumberedBlocks.{unclosed_prefix, unclosed_outer, open_in}
 use Rattle.mm_frame.proofs.Blocks.NumberedBlocks.{openings-append, closings-append, unclosed_pushed}
 use Rattle.mm_frame.proofs.Blocks.NumberedBlocks.{unclosed_before, unclosed_all, closings_one}
 use Rattle.mm_frame.proofs.Blocks.NumberedBlocks.{length_pushed, all_taken}
 use Rattle.std.proofs.lemmas.Option.{slice_get_within}
 use Rattle.std.proofs.lemmas.List.{take-append-le}
-use Rattle.mm_text.specs.declared.statement.Kind.{Kind}
-use Rattle.mm_text.specs.declared.statement.Kind.TheVariants.{Closing}
-use Rattle.mm_text.specs.Blocks.{is_closing}
+use Rattle.mm_base.specs.declared.statement.Kind.{Kind}
+use Rattle.mm_base.specs.declared.statement.Kind.TheVariants.{Closing}
+use Rattle.mm_base.specs.Blocks.{is_closing}
 
 -- ==== what is active at each index, by the blocks' numbers; and what stays active as statements
 -- are added

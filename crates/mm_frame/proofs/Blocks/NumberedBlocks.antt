@@ -10,15 +10,15 @@ use Rattle.std.proofs.lemmas.List.Sums.{sum_by-append}
 use Rattle.std.proofs.lemmas.Bool.{cases_lt, cases_order}
 use Rattle.mm_frame.specs.Sentence.{Sentence}
 use Rattle.mm_frame.specs.Active.{open_marks, close_marks, IsOpen}
-use Rattle.mm_text.specs.Blocks.{is_closing, is_opening}
+use Rattle.mm_base.specs.Blocks.{is_closing, is_opening}
 use Rattle.mm_frame.specs.Mirror.Gathered.{AreRisingIndices}
 use Rattle.mm_frame.specs.Mirror.Scopes.{IsUnclosed, IsBegun, IsEnd, IsOnStack, DirectlyHolds}
 use Rattle.mm_frame.specs.Mirror.Gathered.{AreRisingIndices}
 use Rattle.mm_frame.specs.Mirror.Scopes.{AreScopes}
 use Rattle.std.proofs.lemmas.Option.{slice_get_within}
-use Rattle.mm_text.specs.declared.statement.Kind.TheVariants.{Opening, Closing}
-use Rattle.mm_text.proofs.Lists.{get_kept, get_pushed, pushed_cases, get_before, get_set_cases}
-use Rattle.mm_text.proofs.Lists.{split_at}
+use Rattle.mm_base.specs.declared.statement.Kind.TheVariants.{Opening, Closing}
+use Rattle.mm_base.proofs.Lists.{get_kept, get_pushed, pushed_cases, get_before, get_set_cases}
+use Rattle.mm_base.proofs.Lists.{split_at}
 
 -- ==== how many blocks the parts of a list of statements open and close, and which blocks stay open
 -- as statements are appended

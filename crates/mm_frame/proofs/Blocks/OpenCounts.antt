@@ -2,11 +2,11 @@
 use Rattle.std.proofs.Common.{◌≡◌, ℕ, zero, suc, ◌+◌, ◌<◌, ◌≤◌, ◌⊎◌, inl, inr, Bool, true, false}
 use Rattle.std.proofs.Common.{cond, take, List, [], ◌∷◌, refl, arith, ◌↔◌, ◌-◌, length, drop, ◌++◌}
 use Rattle.std.proofs.Common.{Some, sym, ap, ◌∙◌, subst, slice_get, length-take-le}
-use Rattle.mm_text.specs.declared.statement.Kind.{Kind}
-use Rattle.mm_text.specs.declared.statement.Kind.TheVariants.{Opening, Closing}
+use Rattle.mm_base.specs.declared.statement.Kind.{Kind}
+use Rattle.mm_base.specs.declared.statement.Kind.TheVariants.{Opening, Closing}
 use Rattle.mm_frame.specs.Sentence.{Sentence}
 use Rattle.mm_frame.specs.Active.{open_marks, close_marks, IsOpen}
-use Rattle.mm_text.specs.Blocks.{is_closing, is_opening}
+use Rattle.mm_base.specs.Blocks.{is_closing, is_opening}
 use Rattle.mm_frame.proofs.Blocks.NumberedBlocks.{openings-append, closings-append, openings_one}
 use Rattle.mm_frame.proofs.Blocks.NumberedBlocks.{closings_one, unclosed_pushed, unclosed_all}
 use Rattle.mm_frame.proofs.Blocks.NumberedBlocks.{unclosed_new, open_in}
@@ -16,9 +16,9 @@ use Rattle.std.proofs.lemmas.Bool.{cases_lt}
 use Rattle.std.proofs.lemmas.Option.{slice_get_within}
 use Rattle.std.proofs.lemmas.List.{drop-append-le, drop-drop}
 use Rattle.mm_frame.specs.Laws.{AreOpen, OpenCount}
-use Rattle.mm_text.proofs.Lists.{get_kept, get_pushed, get_in_front, get_dropped, split_at}
-use Rattle.mm_text.proofs.Lists.{get_within, get_from_front, pushed_cases, take_next}
-use Rattle.mm_text.proofs.Lists.{at_from_contains, contains_from_at}
+use Rattle.mm_base.proofs.Lists.{get_kept, get_pushed, get_in_front, get_dropped, split_at}
+use Rattle.mm_base.proofs.Lists.{get_within, get_from_front, pushed_cases, take_next}
+use Rattle.mm_base.proofs.Lists.{at_from_contains, contains_from_at}
 use Rattle.mm_frame.proofs.Blocks.ActiveStatements.{open_stays}
 use Rattle.std.proofs.Math.Seq.{take-length}
 

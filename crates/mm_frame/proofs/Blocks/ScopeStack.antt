@@ -7,10 +7,10 @@ use Rattle.std.proofs.lemmas.Option.{slice_get_within}
 use Rattle.mm_frame.specs.Sentence.{Sentence}
 use Rattle.mm_frame.specs.Active.{open_marks, close_marks, IsOpen, IsActive}
 use Rattle.mm_frame.specs.Mirror.Scopes.{IsUnclosed, AreScopes}
-use Rattle.mm_text.proofs.Lists.{get_within, get_pushed}
-use Rattle.mm_text.specs.declared.statement.Kind.{Kind}
-use Rattle.mm_text.specs.declared.statement.Kind.TheVariants.{Opening, Closing}
-use Rattle.mm_text.specs.Blocks.{is_opening}
+use Rattle.mm_base.proofs.Lists.{get_within, get_pushed}
+use Rattle.mm_base.specs.declared.statement.Kind.{Kind}
+use Rattle.mm_base.specs.declared.statement.Kind.TheVariants.{Opening, Closing}
+use Rattle.mm_base.specs.Blocks.{is_opening}
 use Rattle.mm_frame.proofs.Blocks.ActiveStatements.{not_closing, active_while, while_active}
 use Rattle.mm_frame.proofs.Blocks.NumberedBlocks.{length_pushed, scopes_ordinary, scopes_opening}
 use Rattle.mm_frame.proofs.Blocks.NumberedBlocks.{scopes_closing}

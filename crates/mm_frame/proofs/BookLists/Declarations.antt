@@ -6,15 +6,15 @@ use Rattle.std.proofs.Common.{◌⊎◌, Contains, slice_range}
 use Rattle.std.specs.List.{AllByRecursion, sum_by}
 use Rattle.std.proofs.lemmas.Result.{IfOk-weaker}
 use Rattle.std.proofs.lemmas.List.{length-map, map-append}
-use Rattle.mm_text.specs.declared.token.Token.{Token}
-use Rattle.mm_text.specs.declared.statement.Kind.{Kind}
-use Rattle.mm_text.specs.declared.statement.Kind.TheVariants.{Distinct, Floating, Essential, Axiom}
-use Rattle.mm_text.specs.declared.statement.Kind.TheVariants.{Provable, Variables, Constants}
-use Rattle.mm_text.specs.declared.statement.Kind.TheVariants.{Closing}
-use Rattle.mm_text.specs.declared.statement.Statement.{Statement}
-use Rattle.mm_text.specs.Token.{PlainToken, plain_token}
-use Rattle.mm_text.specs.Statement.{PlainStatement, plain_statement, FitsCount, HasLabel, HasForm}
-use Rattle.mm_text.specs.Statement.{bytes_in}
+use Rattle.mm_base.specs.declared.token.Token.{Token}
+use Rattle.mm_base.specs.declared.statement.Kind.{Kind}
+use Rattle.mm_base.specs.declared.statement.Kind.TheVariants.{Distinct, Floating, Essential, Axiom}
+use Rattle.mm_base.specs.declared.statement.Kind.TheVariants.{Provable, Variables, Constants}
+use Rattle.mm_base.specs.declared.statement.Kind.TheVariants.{Closing}
+use Rattle.mm_base.specs.declared.statement.Statement.{Statement}
+use Rattle.mm_base.specs.Token.{PlainToken, plain_token}
+use Rattle.mm_base.specs.Statement.{PlainStatement, plain_statement, FitsCount, HasLabel, HasForm}
+use Rattle.mm_base.specs.Statement.{bytes_in}
 use Rattle.mm_frame.specs.declared.answer.Taken.{Taken}
 use Rattle.mm_frame.specs.declared.answer.Taken.TheVariants.{Declared}
 use Rattle.mm_frame.specs.declared.number.Sym.{Sym}
@@ -27,8 +27,8 @@ use Rattle.mm_frame.specs.Mirror.Layout.{statements_of, AreTables, AreInfos, nam
 use Rattle.mm_frame.specs.Taken.{TakenAs}
 use Rattle.mm_frame.specs.Mirror.Grows.{Grows, IsSame, SameLists, Entered, entry_of}
 use Rattle.std.proofs.lemmas.List.Sums.{sum_by-cons}
-use Rattle.mm_text.proofs.Lists.{same_length, get_pushed, get_within, pushed_cases, take_next}
-use Rattle.mm_text.proofs.Lists.{at_from_contains}
+use Rattle.mm_base.proofs.Lists.{same_length, get_pushed, get_within, pushed_cases, take_next}
+use Rattle.mm_base.proofs.Lists.{at_from_contains}
 use Rattle.std.proofs.lemmas.Option.{slice_get_within}
 use Rattle.mm_frame.specs.declared.tables.SymbolInfo.{SymbolInfo}
 use Rattle.mm_frame.specs.Mirror.Declaring.{IsDeclaration, latest_by, AreNoted, IsNoted, IsAdded}
@@ -46,7 +46,7 @@ use Rattle.mm_frame.proofs.BookLists.SymbolsAndLabels.{latest_declared}
 use Rattle.mm_frame.proofs.BookLists.SymbolsAndLabels.{essentials_other}
 use Rattle.std.proofs.lemmas.Bool.{cases_lt}
 use Rattle.indexmap.proofs.IndexTableLemmas.Probe.{pigeonhole}
-use Rattle.mm_text.specs.Files.{most_bytes}
+use Rattle.mm_base.specs.MostBytes.{most_bytes}
 use Rattle.mm_frame.specs.Active.{IsConstant, IsVariable}
 use Rattle.mm_frame.specs.Mirror.ScopesOf.{HaveScopes}
 use Rattle.mm_frame.proofs.Frames.FrameLaws.{stated_other}

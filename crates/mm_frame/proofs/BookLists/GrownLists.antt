@@ -4,7 +4,7 @@ use Rattle.std.proofs.Common.{Option, Some, refl, ap, ◌∙◌, length-append, 
 use Rattle.std.proofs.Common.{slice_range, suc, ◌+◌, ◌<◌, ◌≤◌, inl, inr, drop, None, subst, sym}
 use Rattle.std.proofs.Common.{option_map, Result, Ok, Err, OnErr, rules}
 use Rattle.std.proofs.Math.Seq.{drop-append_seam, take-length}
-use Rattle.mm_text.specs.declared.statement.Kind.{Kind}
+use Rattle.mm_base.specs.declared.statement.Kind.{Kind}
 use Rattle.mm_frame.specs.declared.number.Sym.{Sym}
 use Rattle.mm_frame.specs.Sentence.{Sentence}
 use Rattle.mm_frame.specs.Mirror.Layout.{names_by, label_by, sentence_by, sentences_by}
@@ -16,13 +16,13 @@ use Rattle.std.proofs.lemmas.List.{drop-append-le, take-append-le, length-drop, 
 use Rattle.std.proofs.lemmas.List.{length-map}
 use Rattle.mm_frame.specs.declared.number.LabelId.{LabelId}
 use Rattle.mm_frame.specs.declared.tables.Entry.{Entry}
-use Rattle.mm_text.proofs.Lists.{pushed_cases, get_from_front, get_within, get_dropped}
-use Rattle.mm_text.proofs.Lists.{append_cases, get_kept}
+use Rattle.mm_base.proofs.Lists.{pushed_cases, get_from_front, get_within, get_dropped}
+use Rattle.mm_base.proofs.Lists.{append_cases, get_kept}
 use Rattle.mm_frame.specs.declared.tables.Tables.{Tables}
 use Rattle.mm_frame.specs.declared.scopes.TheConstants.{NEVER}
 use Rattle.mm_frame.specs.Mirror.Grows.{SameLists, IsSame, Grows}
 use Rattle.mm_frame.specs.Mirror.Stated.{PairTable}
-use Rattle.mm_text.specs.Files.{most_bytes}
+use Rattle.mm_base.specs.MostBytes.{most_bytes}
 use Rattle.mm_frame.specs.Rules.{IsMeant}
 use Rattle.mm_frame.specs.Form.{IsFormedSentence}
 use Rattle.mm_frame.specs.Mirror.ScopesOf.{HaveScopes}

@@ -2,10 +2,10 @@
 use Rattle.std.proofs.Common.{◌≡◌, ℕ, ◌+◌, ◌<◌, ◌≤◌, inl, inr, length, set, List, [], ◌∷◌, ◌++◌}
 use Rattle.std.proofs.Common.{map, Some, refl, sym, ap, ◌∙◌, subst, length-append, arith, slice_get}
 use Rattle.std.proofs.Common.{fold, append-nil}
-use Rattle.mm_text.specs.declared.statement.Kind.{Kind}
-use Rattle.mm_text.specs.declared.statement.Kind.TheVariants.{Floating, Essential, Distinct}
-use Rattle.mm_text.specs.declared.statement.Kind.TheVariants.{Closing}
-use Rattle.mm_text.specs.Files.{most_bytes}
+use Rattle.mm_base.specs.declared.statement.Kind.{Kind}
+use Rattle.mm_base.specs.declared.statement.Kind.TheVariants.{Floating, Essential, Distinct}
+use Rattle.mm_base.specs.declared.statement.Kind.TheVariants.{Closing}
+use Rattle.mm_base.specs.MostBytes.{most_bytes}
 use Rattle.mm_frame.specs.declared.distinct.DistinctPair.{DistinctPair}
 use Rattle.mm_frame.specs.declared.hypothesis.Hypothesis.{Hypothesis}
 use Rattle.mm_frame.specs.declared.number.LabelId.{LabelId}
@@ -33,7 +33,7 @@ use Rattle.mm_frame.specs.Mirror.Gathered.{AreIndices, AreThoseAt}
 use Rattle.mm_frame.specs.Pieces.{variables_of, HaveIndices}
 use Rattle.mm_frame.specs.Mirror.Patterned.{ArePatterned}
 use Rattle.mm_frame.proofs.Frames.MandatoryHypotheses.{hypotheses_from_indices}
-use Rattle.mm_text.proofs.Lists.{get_pushed, contains_from_at, get_within}
+use Rattle.mm_base.proofs.Lists.{get_pushed, contains_from_at, get_within}
 use Rattle.mm_frame.proofs.Rules.SymbolLookups.{label_number}
 use Rattle.mm_frame.proofs.Names.NameNumbers.{with_name_cases, symbols_push, numbers_within}
 use Rattle.mm_frame.proofs.Names.LabelNumbers.{labelled_few}

@@ -2,10 +2,10 @@
 use Rattle.std.proofs.Common.{◌≡◌, ◌↔◌, ℕ, ◌+◌, ◌<◌, ◌≤◌, inl, inr, length, take, List, [], ◌∷◌}
 use Rattle.std.proofs.Common.{map, Option, Some, None, slice_range, refl, sym, ap, ◌∙◌, subst}
 use Rattle.std.proofs.Common.{arith, slice_get}
-use Rattle.mm_text.specs.declared.statement.Kind.{Kind}
-use Rattle.mm_text.specs.declared.statement.Kind.TheVariants.{Floating, Essential, Axiom, Provable}
-use Rattle.mm_text.specs.Token.{IsLabel}
-use Rattle.mm_text.specs.Files.{most_bytes}
+use Rattle.mm_base.specs.declared.statement.Kind.{Kind}
+use Rattle.mm_base.specs.declared.statement.Kind.TheVariants.{Floating, Essential, Axiom, Provable}
+use Rattle.mm_base.specs.Token.{IsLabel}
+use Rattle.mm_base.specs.MostBytes.{most_bytes}
 use Rattle.mm_frame.specs.declared.distinct.DistinctPair.{DistinctPair}
 use Rattle.mm_frame.specs.declared.hypothesis.Hypothesis.{Hypothesis}
 use Rattle.mm_frame.specs.declared.piece.Piece.{Piece}
@@ -22,7 +22,7 @@ use Rattle.mm_frame.specs.declared.tables.Tables.{Tables}
 use Rattle.mm_frame.specs.Frame.{AreThose, IsMandatoryAt}
 use Rattle.std.proofs.lemmas.List.{length-map, length-take-le}
 use Rattle.std.proofs.lemmas.Option.{slice_get_within, same_Some}
-use Rattle.mm_text.proofs.Lists.{get_within, same_length}
+use Rattle.mm_base.proofs.Lists.{get_within, same_length}
 use Rattle.mm_frame.proofs.Names.NameNumbers.{get_alike}
 use Rattle.mm_frame.proofs.Names.LabelNumbers.{numbered_get, numbered_within, numbered_unique}
 use Rattle.mm_frame.proofs.Names.LabelNumbers.{numbered_from_get}

@@ -4,9 +4,9 @@ use Rattle.std.proofs.Common.{◌++◌, Contains, Option, Some, None, refl, sym,
 use Rattle.std.proofs.Common.{length-set, arith, slice_get, fold, zero, ◌<◌, ◌≤◌, map, is_some}
 use Rattle.std.proofs.lemmas.Option.{slice_get_within}
 use Rattle.std.proofs.lemmas.List.Sums.{fold-append}
-use Rattle.mm_text.specs.declared.statement.Kind.{Kind}
-use Rattle.mm_text.specs.declared.statement.Kind.TheVariants.{Constants, Variables, Floating}
-use Rattle.mm_text.specs.declared.statement.Kind.TheVariants.{Essential, Closing}
+use Rattle.mm_base.specs.declared.statement.Kind.{Kind}
+use Rattle.mm_base.specs.declared.statement.Kind.TheVariants.{Constants, Variables, Floating}
+use Rattle.mm_base.specs.declared.statement.Kind.TheVariants.{Essential, Closing}
 use Rattle.mm_frame.specs.declared.tables.SymbolInfo.{SymbolInfo}
 use Rattle.mm_frame.specs.Sentence.{Sentence, SomeSentence, Declares}
 use Rattle.mm_frame.specs.Rules.{AllMeant}
@@ -14,9 +14,9 @@ use Rattle.mm_frame.specs.Numbers.{declared_by, declared_in, with_name, symbols_
 use Rattle.mm_frame.specs.Numbers.{labelled_sentences, IsNumbered}
 use Rattle.mm_frame.specs.Mirror.Layout.{IsLatestIn, GivesType, AreInfos, AreLabelInfos, IsEntered}
 use Rattle.mm_frame.specs.Mirror.Layout.{AreEssentials}
-use Rattle.mm_text.proofs.Lists.{get_kept, get_pushed, pushed_cases, get_before, get_set_cases}
-use Rattle.mm_text.proofs.Lists.{at_from_contains, contains_from_at, get_within, append_cases}
-use Rattle.mm_text.proofs.Lists.{same_length}
+use Rattle.mm_base.proofs.Lists.{get_kept, get_pushed, pushed_cases, get_before, get_set_cases}
+use Rattle.mm_base.proofs.Lists.{at_from_contains, contains_from_at, get_within, append_cases}
+use Rattle.mm_base.proofs.Lists.{same_length}
 use Rattle.mm_frame.proofs.Blocks.NumberedBlocks.{rising_grown, length_pushed}
 use Rattle.mm_frame.proofs.Rules.ObeyedRules.{meant_at, typed_variable, some_later, active_in_front}
 use Rattle.mm_frame.proofs.Names.NameNumbers.{At, symbols_push, symbols_unique}

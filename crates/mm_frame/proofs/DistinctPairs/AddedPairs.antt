@@ -10,12 +10,12 @@ use Rattle.std.specs.Map.{update}
 use Rattle.mm_frame.specs.declared.pairs.Span.{Span}
 use Rattle.mm_frame.specs.Mirror.Stated.{Stated, stated_by, IsLastSpan, IsLatestStated, AreOlder}
 use Rattle.mm_frame.specs.Mirror.Stated.{AreLinked, is_same_key}
-use Rattle.mm_text.proofs.Lists.{get_kept, get_pushed, pushed_cases, get_before, at_from_contains}
-use Rattle.mm_text.proofs.Lists.{contains_from_at}
+use Rattle.mm_base.proofs.Lists.{get_kept, get_pushed, pushed_cases, get_before, at_from_contains}
+use Rattle.mm_base.proofs.Lists.{contains_from_at}
 use Rattle.mm_frame.proofs.Names.NameNumbers.{get_mapped, get_unmapped, member_name, name_member}
 use Rattle.mm_frame.proofs.Names.NameNumbers.{At, StandOnce, once_pushed, symbols_unique}
 use Rattle.std.proofs.Math.Seq.{take-length}
-use Rattle.mm_text.specs.declared.statement.Kind.TheVariants.{Distinct}
+use Rattle.mm_base.specs.declared.statement.Kind.TheVariants.{Distinct}
 use Rattle.mm_frame.specs.declared.number.Sym.{Sym}
 use Rattle.mm_frame.specs.Sentence.{Sentence}
 use Rattle.mm_frame.specs.Frame.{IsDistinct}

@@ -6,7 +6,7 @@ use Rattle.std.proofs.lemmas.Bool.{cases_lt, cases_order}
 use Rattle.std.proofs.lemmas.List.{take-append-le, length-take-le, take-take, append-nil}
 use Rattle.std.proofs.Math.Seq.{take-length}
 use Rattle.std.proofs.lemmas.Option.{slice_get_within, slice_get_read}
-use Rattle.mm_text.specs.declared.statement.Kind.TheVariants.{Distinct}
+use Rattle.mm_base.specs.declared.statement.Kind.TheVariants.{Distinct}
 use Rattle.mm_frame.specs.declared.wide.WideDistinct.{WideDistinct}
 use Rattle.mm_frame.specs.Sentence.{Sentence}
 use Rattle.mm_frame.specs.Active.{IsActive}
@@ -14,9 +14,9 @@ use Rattle.mm_frame.specs.Frame.{IsDistinct}
 use Rattle.mm_frame.specs.Numbers.{symbols_of, AreNumbers}
 use Rattle.mm_frame.specs.Mirror.Wide.{AreWide, HoldsPair, IsHeld, NoneFrom, IsWide, IsNewWide}
 use Rattle.mm_frame.specs.Mirror.Wide.{EndWithActive}
-use Rattle.mm_text.proofs.Lists.{get_kept, get_in_front, get_pushed, pushed_cases, get_before}
-use Rattle.mm_text.proofs.Lists.{get_after, append_cases, get_from_take, at_from_contains}
-use Rattle.mm_text.proofs.Lists.{contains_from_at}
+use Rattle.mm_base.proofs.Lists.{get_kept, get_in_front, get_pushed, pushed_cases, get_before}
+use Rattle.mm_base.proofs.Lists.{get_after, append_cases, get_from_take, at_from_contains}
+use Rattle.mm_base.proofs.Lists.{contains_from_at}
 use Rattle.mm_frame.proofs.Rules.ObeyedRules.{active_in_front}
 use Rattle.mm_frame.proofs.Names.NameNumbers.{symbols_unique, get_mapped, get_unmapped, member_name}
 use Rattle.mm_frame.proofs.Names.NameNumbers.{name_member, each_pushed}

@@ -6,13 +6,13 @@ use Rattle.std.proofs.lemmas.Bool.{cases_eq}
 use Rattle.mm_frame.specs.Mirror.Gathered.{AreRisingIndices}
 use Rattle.mm_frame.specs.Sentence.{Sentence, IsAssertion}
 use Rattle.mm_frame.specs.Frame.{AreThose, AreMandatory, IsMandatoryAt, IsDistinct}
-use Rattle.mm_text.proofs.Lists.{at_from_contains, contains_from_at, get_kept, get_pushed}
-use Rattle.mm_text.proofs.Lists.{pushed_cases, get_before, zip_mapped, mapped_zip}
+use Rattle.mm_base.proofs.Lists.{at_from_contains, contains_from_at, get_kept, get_pushed}
+use Rattle.mm_base.proofs.Lists.{pushed_cases, get_before, zip_mapped, mapped_zip}
 use Rattle.mm_frame.proofs.Names.NameNumbers.{At, symbols_grow, symbols_unique}
 use Rattle.mm_frame.proofs.Names.NameNumbers.{number_from_declared}
 use Rattle.std.proofs.lemmas.Option.{slice_get_within, same_Some, none-some}
 use Rattle.std.proofs.lemmas.List.{take-append-le}
-use Rattle.mm_text.specs.declared.statement.Kind.TheVariants.{Distinct}
+use Rattle.mm_base.specs.declared.statement.Kind.TheVariants.{Distinct}
 use Rattle.mm_frame.specs.declared.distinct.DistinctPair.{DistinctPair}
 use Rattle.mm_frame.specs.declared.hypothesis.Hypothesis.{Hypothesis}
 use Rattle.mm_frame.specs.declared.piece.Piece.{Piece}

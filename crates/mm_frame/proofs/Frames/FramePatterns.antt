@@ -21,8 +21,8 @@ use Rattle.mm_frame.specs.Mirror.Layout.{statements_of}
 use Rattle.mm_frame.specs.Mirror.Naming.{part_after}
 use Rattle.mm_frame.specs.Mirror.Patterned.{IsLonger, IsPatternAt, told, AreSameButPatterns}
 use Rattle.mm_frame.specs.Mirror.Patterned.{AreMandatoryOf, HaveFirstPatterns, ArePatterned}
-use Rattle.mm_text.proofs.Lists.{get_within, get_set_cases, zip_push, zip_mapped, mapped_zip}
-use Rattle.mm_text.proofs.Lists.{same_length}
+use Rattle.mm_base.proofs.Lists.{get_within, get_set_cases, zip_push, zip_mapped, mapped_zip}
+use Rattle.mm_base.proofs.Lists.{same_length}
 use Rattle.mm_frame.proofs.Names.NameNumbers.{get_mapped, get_alike}
 use Rattle.mm_frame.proofs.Names.LabelNumbers.{numbered_at, numbered_get}
 use Rattle.mm_frame.proofs.BookLists.GrownLists.{all_statements, longer, added_part}

@@ -19,12 +19,12 @@ use Rattle.mm_frame.specs.declared.tables.Tables.{Tables}
 use Rattle.mm_frame.proofs.BookLists.GrownLists.{sentence_at, entry_at}
 use Rattle.mm_frame.specs.Mirror.Separated.{ordered_pair}
 use Rattle.mm_frame.proofs.DistinctPairs.AddedPairs.{ordered_less, ordered_more}
-use Rattle.mm_text.specs.declared.statement.Kind.TheVariants.{Floating}
+use Rattle.mm_base.specs.declared.statement.Kind.TheVariants.{Floating}
 use Rattle.mm_frame.specs.declared.hypothesis.Hypothesis.{Hypothesis}
 use Rattle.mm_frame.specs.Form.{AllFormed, IsFormedSentence}
 use Rattle.mm_frame.specs.FrameIndex.{IsTypingOf, HasTyping, HaveTypings}
 use Rattle.mm_frame.specs.Mirror.Gathered.{AreIndices, AreThoseAt}
-use Rattle.mm_text.proofs.Lists.{get_within, contains_from_at, append_cases}
+use Rattle.mm_base.proofs.Lists.{get_within, contains_from_at, append_cases}
 use Rattle.mm_frame.proofs.Names.NameNumbers.{symbols_grow, each_pushed}
 use Rattle.mm_frame.proofs.Names.LabelNumbers.{labelled_grow, numbered_at, numbered_get}
 use Rattle.mm_frame.proofs.Frames.MandatoryHypotheses.{index_named}

@@ -9,9 +9,9 @@ use Rattle.std.proofs.lemmas.Bool.{cases_lt, false≢true}
 use Rattle.std.proofs.lemmas.Bool.Decides.{Decides-eqb}
 use Rattle.std.proofs.lemmas.List.{append-nil, length-take-le}
 use Rattle.std.proofs.lemmas.List.Elements.{Contains-append_left, Contains-push_cases}
-use Rattle.mm_text.specs.declared.statement.Kind.TheVariants.{Constants, Variables}
-use Rattle.mm_text.proofs.Lists.{at_from_contains, contains_from_at, get_within, get_from_front}
-use Rattle.mm_text.proofs.Lists.{get_pushed, get_take, one_there, pushed_cases}
+use Rattle.mm_base.specs.declared.statement.Kind.TheVariants.{Constants, Variables}
+use Rattle.mm_base.proofs.Lists.{at_from_contains, contains_from_at, get_within, get_from_front}
+use Rattle.mm_base.proofs.Lists.{get_pushed, get_take, one_there, pushed_cases}
 use Rattle.mm_frame.specs.declared.hypothesis.Hypothesis.{Hypothesis}
 use Rattle.mm_frame.specs.declared.number.Sym.{Sym}
 use Rattle.mm_frame.specs.Sentence.{Sentence, Declares, IsAssertion}

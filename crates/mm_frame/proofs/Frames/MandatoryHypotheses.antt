@@ -20,9 +20,9 @@ use Rattle.mm_frame.specs.Mirror.Latest.{IsLatest}
 use Rattle.mm_frame.specs.Mirror.Layout.{AreInfos, AreEssentials, GivesType, IsLatestIn}
 use Rattle.mm_frame.specs.Mirror.Gathered.{floating_of, floatings, IsIn, StandsIn, AreGathered}
 use Rattle.mm_frame.specs.Mirror.Gathered.{AreRisingIndices, IsGathered, AreIndices}
-use Rattle.mm_text.proofs.Lists.{get_kept, get_pushed, pushed_cases, get_within, get_after}
-use Rattle.mm_text.proofs.Lists.{at_from_contains, contains_from_at, append_cases, get_parted}
-use Rattle.mm_text.proofs.Lists.{one_there}
+use Rattle.mm_base.proofs.Lists.{get_kept, get_pushed, pushed_cases, get_within, get_after}
+use Rattle.mm_base.proofs.Lists.{at_from_contains, contains_from_at, append_cases, get_parted}
+use Rattle.mm_base.proofs.Lists.{one_there}
 use Rattle.mm_frame.proofs.Names.NameNumbers.{member_name, name_member}
 use Rattle.std.proofs.Math.Seq.{take-append_seam}
 use Rattle.mm_frame.specs.Rules.{IsMeant, AllMeant}

@@ -8,7 +8,7 @@ use Rattle.std.proofs.lemmas.Option.{get_or_from_slice_get}
 use Rattle.std.proofs.lemmas.Bool.{cases_order, false≢true}
 use Rattle.std.proofs.lemmas.List.{take_more, length-take-le, length-map, map-append}
 use Rattle.std.proofs.Math.Seq.{take-append_seam, take-length}
-use Rattle.mm_text.specs.declared.statement.Kind.TheVariants.{Floating}
+use Rattle.mm_base.specs.declared.statement.Kind.TheVariants.{Floating}
 use Rattle.mm_frame.specs.declared.number.Sym.{Sym}
 use Rattle.mm_frame.specs.Sentence.{Sentence, Types, IsStated}
 use Rattle.mm_frame.specs.Rules.{IsMeant, AllMeant}
@@ -17,8 +17,8 @@ use Rattle.mm_frame.specs.FrameIndex.{ArePairs, FrameIndex, IsTypingOf}
 use Rattle.mm_frame.specs.Numbers.{IsNumberOf, labelled_sentences}
 use Rattle.mm_frame.specs.Mirror.Gathered.{AreIndices, IsTypedBy, AreVariables, AreApart, AreFound}
 use Rattle.mm_frame.specs.Mirror.Gathered.{AreThoseAt}
-use Rattle.mm_text.proofs.Lists.{get_kept, get_pushed, get_parted, pushed_cases, get_from_front}
-use Rattle.mm_text.proofs.Lists.{get_within, one_there, at_from_contains, contains_from_at}
+use Rattle.mm_base.proofs.Lists.{get_kept, get_pushed, get_parted, pushed_cases, get_from_front}
+use Rattle.mm_base.proofs.Lists.{get_within, one_there, at_from_contains, contains_from_at}
 use Rattle.mm_frame.proofs.Names.NameNumbers.{symbols_grow, get_mapped, get_unmapped, each_pushed}
 use Rattle.mm_frame.proofs.Names.NameNumbers.{symbols_unique}
 use Rattle.mm_frame.proofs.Rules.ObeyedRules.{latest_from_active, mandatory_typed}

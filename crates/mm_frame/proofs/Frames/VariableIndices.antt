@@ -14,7 +14,7 @@ use Rattle.mm_frame.specs.declared.hypothesis.Hypothesis.{Hypothesis}
 use Rattle.mm_frame.specs.Pieces.{variables_of, is_of, IsNowhere, IsFirstAt, AreItsPieces}
 use Rattle.mm_frame.specs.Pieces.{HasPattern}
 use Rattle.mm_frame.specs.Mirror.Patterned.{IsLonger, AreNoted}
-use Rattle.mm_text.proofs.Lists.{get_kept, get_set_same, zip_mapped, mapped_zip}
+use Rattle.mm_base.proofs.Lists.{get_kept, get_set_same, zip_mapped, mapped_zip}
 use Rattle.std.proofs.lemmas.List.Sums.{passes_at_first, fails_before_first}
 use Rattle.mm_frame.specs.declared.piece.Piece.{Piece}
 use Rattle.mm_frame.specs.Sentence.{Sentence}

@@ -9,8 +9,8 @@ use Rattle.std.proofs.lemmas.List.{take-append-le, take-take}
 use Rattle.std.proofs.Math.Seq.{take-append_seam}
 use Rattle.mm_frame.specs.Sentence.{Sentence}
 use Rattle.mm_frame.specs.Numbers.{labelled_sentences, IsNumbered, symbols_of}
-use Rattle.mm_text.proofs.Lists.{get_kept, get_pushed, get_before, get_in_front, get_parted}
-use Rattle.mm_text.proofs.Lists.{split_at, one_there}
+use Rattle.mm_base.proofs.Lists.{get_kept, get_pushed, get_before, get_in_front, get_parted}
+use Rattle.mm_base.proofs.Lists.{split_at, one_there}
 use Rattle.std.proofs.lemmas.List.Filters.{length-filter_both}
 use Rattle.mm_frame.specs.Laws.{OneNumber}
 use Rattle.mm_frame.proofs.Names.NameNumbers.{symbols_unique, symbols_grow, number_from_declared}

@@ -10,12 +10,12 @@ use Rattle.std.proofs.lemmas.Option.{get_or_from_slice_get}
 use Rattle.std.proofs.lemmas.Bool.{cases_lt, false≢true, lt-ltb, cases_Bool}
 use Rattle.mm_frame.specs.declared.number.Sym.{Sym}
 use Rattle.std.proofs.lemmas.List.Quantifiers.{position-Some}
-use Rattle.mm_text.proofs.Lists.{pushed_cases, get_kept, get_pushed, append_cases, get_after}
-use Rattle.mm_text.proofs.Lists.{at_from_contains, contains_from_at}
+use Rattle.mm_base.proofs.Lists.{pushed_cases, get_kept, get_pushed, append_cases, get_after}
+use Rattle.mm_base.proofs.Lists.{at_from_contains, contains_from_at}
 use Rattle.std.proofs.lemmas.List.Sums.{fails_before_first, fold-append}
 use Rattle.std.proofs.lemmas.List.Concat.{flat_map-append}
-use Rattle.mm_text.specs.declared.statement.Kind.{Kind}
-use Rattle.mm_text.specs.declared.statement.Kind.TheVariants.{Constants, Variables}
+use Rattle.mm_base.specs.declared.statement.Kind.{Kind}
+use Rattle.mm_base.specs.declared.statement.Kind.TheVariants.{Constants, Variables}
 use Rattle.mm_frame.specs.Sentence.{Sentence, SomeSentence, Declares}
 use Rattle.mm_frame.specs.Active.{IsConstant, IsVariable}
 use Rattle.mm_frame.specs.Numbers.{declared_in, declared_by, with_name, symbols_of}

@@ -14,7 +14,7 @@ use Rattle.mm_frame.specs.Mirror.NameKey.{number_at, ends_by, ends_of}
 use Rattle.std.proofs.lemmas.Option.{slice_get_within, get_or_from_slice_get, slice_get-get_or}
 use Rattle.mm_frame.specs.Mirror.NameTable.{AreByByte}
 use Rattle.mm_frame.specs.Numbers.{with_name}
-use Rattle.mm_text.proofs.Lists.{get_set_cases, get_pushed, pushed_cases, at_from_contains, contains_from_at}
+use Rattle.mm_base.proofs.Lists.{get_set_cases, get_pushed, pushed_cases, at_from_contains, contains_from_at}
 use Rattle.mm_frame.proofs.Names.NameNumbers.{with_name_cases, kept_with_name}
 
 -- ==== a name of 2 to 16 bytes is told by its first bytes and its last, as numbers

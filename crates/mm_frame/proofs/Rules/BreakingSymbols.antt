@@ -7,11 +7,11 @@ use Rattle.std.proofs.Common.{arith, length-append}
 use Rattle.std.proofs.lemmas.List.{length-map}
 use Rattle.std.proofs.lemmas.Option.{slice_get_within}
 use Rattle.std.proofs.str.Laws.{order}
-use Rattle.mm_text.specs.declared.statement.Statement.{Statement}
-use Rattle.mm_text.specs.declared.token.Token.{Token}
-use Rattle.mm_text.proofs.Lists.{at_from_contains, contains_from_at, take_next, get_after, get_kept}
-use Rattle.mm_text.proofs.Lists.{get_in_front}
-use Rattle.mm_text.proofs.Lists.{pushed_cases}
+use Rattle.mm_base.specs.declared.statement.Statement.{Statement}
+use Rattle.mm_base.specs.declared.token.Token.{Token}
+use Rattle.mm_base.proofs.Lists.{at_from_contains, contains_from_at, take_next, get_after, get_kept}
+use Rattle.mm_base.proofs.Lists.{get_in_front}
+use Rattle.mm_base.proofs.Lists.{pushed_cases}
 use Rattle.mm_frame.specs.declared.rule.MeaningRule.{MeaningRule}
 use Rattle.mm_frame.specs.declared.rule.MeaningRule.TheVariants.{M1, M2, M3, M4, M5, M6, M7, M8, M9}
 use Rattle.mm_frame.specs.declared.rule.MeaningRule.TheVariants.{M10, M11, M12, M13, M14, M15}

@@ -6,16 +6,16 @@ use Rattle.std.proofs.lemmas.Option.{same_Some, none-some}
 use Rattle.std.proofs.lemmas.Bool.{cases_lt, cases_Bool, false≢true}
 use Rattle.std.proofs.Math.Decide.{ℕ_discrete, dec_le}
 use mathlib.Core.List.{List-discrete}
-use Rattle.mm_text.specs.declared.statement.Kind.{Kind}
-use Rattle.mm_text.specs.declared.statement.Kind.TheVariants.{Constants, Variables, Distinct}
-use Rattle.mm_text.specs.declared.statement.Kind.TheVariants.{Floating, Essential, Opening}
+use Rattle.mm_base.specs.declared.statement.Kind.{Kind}
+use Rattle.mm_base.specs.declared.statement.Kind.TheVariants.{Constants, Variables, Distinct}
+use Rattle.mm_base.specs.declared.statement.Kind.TheVariants.{Floating, Essential, Opening}
 use Rattle.mm_frame.specs.Sentence.{Sentence, SomeSentence, IsLabelled, Declares, Types}
 use Rattle.mm_frame.specs.Active.{open_marks, close_marks, IsOpen, IsActive, SomeActive, IsConstant}
 use Rattle.mm_frame.specs.Active.{IsVariable, IsTyped}
 use Rattle.mm_frame.specs.Frame.{IsMandatory, IsMandatoryAt, IsDistinct}
 use denote.Enum.Bare.{same_true, sameb}
-use Rattle.mm_text.specs.contracts.statement.Kind.{the_type}
-use Rattle.mm_text.proofs.Lists.{at_from_contains, contains_from_at}
+use Rattle.mm_base.specs.contracts.statement.Kind.{the_type}
+use Rattle.mm_base.proofs.Lists.{at_from_contains, contains_from_at}
 
 -- ---- of parts
 

@@ -6,8 +6,8 @@ use Rattle.std.proofs.lemmas.Option.{slice_get_within}
 use Rattle.std.proofs.lemmas.Bool.{cases_order}
 use Rattle.std.proofs.lemmas.List.{take-append-drop, take-append-le}
 use Rattle.std.proofs.Math.Seq.{take-append_seam, take-length}
-use Rattle.mm_text.specs.declared.statement.Kind.TheVariants.{Constants, Variables, Essential}
-use Rattle.mm_text.specs.declared.statement.Kind.TheVariants.{Closing}
+use Rattle.mm_base.specs.declared.statement.Kind.TheVariants.{Constants, Variables, Essential}
+use Rattle.mm_base.specs.declared.statement.Kind.TheVariants.{Closing}
 use Rattle.mm_frame.specs.declared.rule.MeaningRule.TheVariants.{M1, M2, M3, M5, M12, M13, M7, M11}
 use Rattle.mm_frame.specs.declared.rule.MeaningRule.TheVariants.{M15}
 use Rattle.mm_frame.specs.Sentence.{Sentence, SomeSentence, Declares, IsLabelled, Types, IsStated}
@@ -17,8 +17,8 @@ use Rattle.mm_frame.specs.Active.{IsActiveSymbol}
 use Rattle.mm_frame.specs.Rules.{IsMeant, AllMeant}
 use Rattle.mm_frame.specs.Form.{AllFormed}
 use Rattle.mm_frame.specs.Mirror.Latest.{IsLatest}
-use Rattle.mm_text.proofs.Lists.{pushed_cases, get_from_front, get_in_front, get_parted, split_at}
-use Rattle.mm_text.proofs.Lists.{take_next}
+use Rattle.mm_base.proofs.Lists.{pushed_cases, get_from_front, get_in_front, get_parted, split_at}
+use Rattle.mm_base.proofs.Lists.{take_next}
 use Rattle.mm_frame.proofs.Blocks.ActiveStatements.{unclosed_shorter, active_falls, active_nest}
 use Rattle.mm_frame.proofs.Blocks.ActiveStatements.{active_stays}
 use Rattle.mm_frame.proofs.Blocks.NumberedBlocks.{open_in}

@@ -10,11 +10,11 @@ use denote.Param.Members.{Mut}
 use Rattle.std.proofs.lemmas.Option.{slice_get-map, slice_get_read, slice_get_cases}
 use Rattle.std.proofs.lemmas.Option.{slice_get-get_or}
 use Rattle.std.proofs.lemmas.Iterator.{YieldsList, cases_from_any}
-use Rattle.mm_text.specs.declared.token.Token.{Token}
-use Rattle.mm_text.specs.Token.{plain_token}
+use Rattle.mm_base.specs.declared.token.Token.{Token}
+use Rattle.mm_base.specs.Token.{plain_token}
 use Rattle.mm_frame.specs.Sentence.{Sentence, StandsTwice}
 use Rattle.mm_frame.specs.Rules.{SomeSymbol}
-use Rattle.mm_text.proofs.Lists.{at_from_contains, contains_from_at, take_next, get_from_take}
+use Rattle.mm_base.proofs.Lists.{at_from_contains, contains_from_at, take_next, get_from_take}
 use Rattle.mm_frame.specs.Numbers.{with_name}
 use Rattle.mm_frame.proofs.Names.NameNumbers.{with_name_cases, get_mapped}
 

@@ -17,11 +17,11 @@ use Rattle.mm_frame.specs.Mirror.Layout.{AreInfos}
 use Rattle.mm_frame.specs.Mirror.Latest.{IsLatest}
 use Rattle.mm_frame.proofs.BookLists.GrownLists.{sentence_at, get_sliced}
 use Rattle.mm_frame.proofs.BookLists.GrownLists.{few_statements, all_statements}
-use Rattle.mm_text.proofs.Lists.{get_within, contains_from_at, at_from_contains, pushed_cases}
-use Rattle.mm_text.proofs.Lists.{take_next}
+use Rattle.mm_base.proofs.Lists.{get_within, contains_from_at, at_from_contains, pushed_cases}
+use Rattle.mm_base.proofs.Lists.{take_next}
 use Rattle.mm_frame.proofs.Names.NameNumbers.{name_member, declared_from_number}
 use Rattle.mm_frame.proofs.Names.NameNumbers.{number_from_declared, get_alike}
-use Rattle.mm_text.specs.declared.statement.Kind.TheVariants.{Variables}
+use Rattle.mm_base.specs.declared.statement.Kind.TheVariants.{Variables}
 use Rattle.mm_frame.specs.declared.tables.SymbolInfo.{SymbolInfo}
 use Rattle.mm_frame.specs.Active.{IsActive, SomeActive, IsConstant, IsVariable, IsActiveSymbol}
 use Rattle.mm_frame.specs.Active.{IsTyped}
@@ -36,7 +36,7 @@ use Rattle.std.specs.Iterator.{YieldsThen}
 use Rattle.std.specs.Fn.{Called}
 use denote.Param.Members.{Mut}
 use Rattle.std.proofs.lemmas.Iterator.{YieldsList}
-use Rattle.mm_text.specs.declared.token.Token.{Token}
+use Rattle.mm_base.specs.declared.token.Token.{Token}
 use Rattle.mm_frame.specs.Mirror.Sought.{IsOfNumber, IsSought, AreSought, HasNumbers}
 use Rattle.mm_frame.proofs.Rules.RepeatedSymbols.{SomeAt, some_says, texts_of, text_at}
 

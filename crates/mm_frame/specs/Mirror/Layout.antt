@@ -2,8 +2,8 @@
 -- contracts, and by the model and invariant of `Book`.
 use Rattle.std.specs.Prelude.{◌≡◌, ℕ, ◌+◌, ◌<◌, ◌≤◌, List, [], length, map, take, slice_get}
 use Rattle.std.specs.Prelude.{slice_range, Option, Some, None, Contains, unwrap_or, ◌⊎◌}
-use Rattle.mm_text.specs.declared.statement.Kind.TheVariants.{Variables, Essential, Distinct}
-use Rattle.mm_text.specs.Files.{most_bytes}
+use Rattle.mm_base.specs.declared.statement.Kind.TheVariants.{Variables, Essential, Distinct}
+use Rattle.mm_base.specs.MostBytes.{most_bytes}
 use Rattle.mm_frame.specs.declared.distinct.DistinctPair.{DistinctPair}
 use Rattle.mm_frame.specs.declared.hypothesis.Hypothesis.{Hypothesis}
 use Rattle.mm_frame.specs.declared.number.LabelId.{LabelId}

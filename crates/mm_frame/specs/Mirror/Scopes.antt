@@ -3,7 +3,7 @@
 -- cited by private contracts alone.
 use Rattle.std.specs.Prelude.{◌≡◌, ℕ, suc, ◌+◌, ◌<◌, ◌≤◌, List, length, take, drop, slice_get, Some}
 use Rattle.std.specs.Prelude.{◌⊎◌}
-use Rattle.mm_text.specs.declared.statement.Kind.TheVariants.{Opening}
+use Rattle.mm_base.specs.declared.statement.Kind.TheVariants.{Opening}
 use Rattle.mm_frame.specs.Sentence.{Sentence}
 use Rattle.mm_frame.specs.Active.{IsOpen, Holds, open_marks, close_marks}
 

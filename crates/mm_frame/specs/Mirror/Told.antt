@@ -1,8 +1,8 @@
 -- Whether a statement repeats a symbol. This file mirrors the code, and is cited by private
 -- contracts alone.
 use Rattle.std.specs.Prelude.{◌≡◌, ◌↔◌, Bool, IsTrue, ◌⊎◌}
-use Rattle.mm_text.specs.declared.statement.Kind.{Kind}
-use Rattle.mm_text.specs.declared.statement.Kind.TheVariants.{Constants, Variables, Distinct}
+use Rattle.mm_base.specs.declared.statement.Kind.{Kind}
+use Rattle.mm_base.specs.declared.statement.Kind.TheVariants.{Constants, Variables, Distinct}
 use Rattle.mm_frame.specs.Sentence.{Sentence, StandsTwice}
 use Rattle.mm_frame.specs.Rules.{SomeSymbol}
 

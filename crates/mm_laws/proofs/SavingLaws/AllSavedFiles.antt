@@ -8,10 +8,10 @@ use Rattle.std.specs.List.{AllZip, AllByRecursion}
 use Rattle.std.proofs.Math.Seq.{take-append_seam}
 use Rattle.std.proofs.lemmas.List.Elements.{recursion_from_All, All-contains_itself}
 use Rattle.std.proofs.lemmas.List.Folds.{drop_split}
-use Rattle.mm_text.specs.Statement.{PlainStatement}
+use Rattle.mm_base.specs.Statement.{PlainStatement}
 use Rattle.mm_text.specs.Files.{PlainFile}
 use Rattle.mm_text.specs.Replaced.{with_bytes}
-use Rattle.mm_text.proofs.Lists.{get_parted, all_filtered, at_from_contains, mapped_zip}
+use Rattle.mm_base.proofs.Lists.{get_parted, all_filtered, at_from_contains, mapped_zip}
 use Rattle.mm_frame.specs.Sentence.{Sentence, sentence_of}
 use Rattle.mm_frame.proofs.Rules.ObeyedRules.{one_label}
 use Rattle.mm_step.specs.declared.profile.Profile.{Profile}

@@ -3,7 +3,7 @@ use Rattle.std.proofs.Common.{◌≡◌, ℕ, List, sym, ap}
 use Rattle.std.proofs.Common.{subst, ◌∙◌, ◌∷◌}
 use Rattle.std.proofs.Common.{[]}
 use Rattle.std.proofs.Common.{false}
-use Rattle.mm_text.specs.Statement.{PlainStatement}
+use Rattle.mm_base.specs.Statement.{PlainStatement}
 use Rattle.mm_frame.specs.Sentence.{Sentence, sentence_of}
 use Rattle.mm_step.specs.Tree.{Trees, none, tree, AnyExpression, DeriveAll}
 use Rattle.mm_step.specs.Proof.{IsWithin}

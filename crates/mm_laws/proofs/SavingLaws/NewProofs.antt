@@ -5,10 +5,10 @@ use Rattle.std.proofs.Common.{suc, slice_get, Bool, true, false, not, ◌&&◌, 
 use Rattle.std.proofs.Common.{refl, sym, ap, subst, ◌∙◌, filter, flat_map, fold, option_to_list}
 use Rattle.std.proofs.Math.Seq.{take-append_seam}
 use Rattle.std.proofs.lemmas.List.{length-map}
-use Rattle.mm_text.specs.Statement.{PlainStatement, is_provable}
+use Rattle.mm_base.specs.Statement.{PlainStatement, is_provable}
 use Rattle.mm_text.specs.Files.{PlainFile}
 use Rattle.mm_text.specs.Replaced.{placeless}
-use Rattle.mm_text.proofs.Lists.{get_parted, split_at}
+use Rattle.mm_base.proofs.Lists.{get_parted, split_at}
 use Rattle.mm_frame.specs.Sentence.{Sentence, sentence_of}
 use Rattle.mm_frame.specs.Rules.{AllMeant}
 use Rattle.mm_step.specs.declared.profile.Profile.{Profile}

@@ -2,9 +2,9 @@
 -- relation is judged after what the statements before it say.
 use Rattle.std.proofs.Common.{◌≡◌, ℕ, zero, suc, List, [], ◌∷◌, ◌++◌, map, take, slice_get, Some}
 use Rattle.std.proofs.Common.{refl, append_assoc, append-nil}
-use Rattle.mm_text.specs.Statement.{PlainStatement}
+use Rattle.mm_base.specs.Statement.{PlainStatement}
 use Rattle.mm_text.specs.Replaced.{placeless}
-use Rattle.mm_text.proofs.Lists.{cons_parts}
+use Rattle.mm_base.proofs.Lists.{cons_parts}
 use Rattle.mm_frame.specs.Sentence.{Sentence, sentence_of}
 use Rattle.mm_rules.specs.Verdict.{sentences}
 use Rattle.mm_check.proofs.AlikeVerdicts.{same_sentence}

@@ -6,12 +6,13 @@ use Rattle.std.proofs.Common.{append-nil, Contains, ◌↔◌, zero, suc, take, 
 use Rattle.std.specs.Prelude.{nat_le}
 use Rattle.std.specs.List.{AllByRecursion, AllZip, flat_map, list_all, list_any}
 use Rattle.std.proofs.lemmas.Bool.{leb-true, eqb-true, le-leb, ne_eqb, and_parts}
-use Rattle.mm_text.specs.Token.{PlainToken, is_space, is_printable, is_label_byte, IsLabel}
-use Rattle.mm_text.specs.Token.{HoldsNoDollar, tokens_from}
+use Rattle.mm_base.specs.Token.{PlainToken, is_space, is_printable, is_label_byte, IsLabel}
+use Rattle.mm_base.specs.Token.{HoldsNoDollar, tokens_from}
 use Rattle.mm_text.specs.Replaced.{IsProofToken, IsProofText}
-use Rattle.mm_text.proofs.Reader.OneToken.{label_held, label_bytes}
-use Rattle.mm_text.proofs.Lists.{all_append, all_prefix, all_back, all_weaker, contains_from_at}
-use Rattle.mm_text.proofs.Lists.{all_within}
+use Rattle.mm_text.proofs.Reader.OneToken.{label_held}
+use Rattle.mm_base.proofs.LabelBytes.{label_bytes}
+use Rattle.mm_base.proofs.Lists.{all_append, all_prefix, all_back, all_weaker, contains_from_at}
+use Rattle.mm_base.proofs.Lists.{all_within}
 use Rattle.mm_code.specs.declared.code.Code.{Code}
 use Rattle.mm_code.specs.declared.code.Code.TheVariants.{Number, Tag}
 use Rattle.mm_code.specs.Letters.{IsLeadingDigit, leading_letter, last_letter, SaysCode}

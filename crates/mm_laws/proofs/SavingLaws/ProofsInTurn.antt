@@ -5,12 +5,12 @@ use Rattle.std.proofs.Common.{slice_get, Bool, true, false, Some, None, refl, sy
 use Rattle.std.proofs.Common.{append_assoc, arith}
 use Rattle.std.specs.List.{AllZip}
 use Rattle.std.proofs.lemmas.List.{map-append}
-use Rattle.mm_text.specs.Statement.{PlainStatement}
+use Rattle.mm_base.specs.Statement.{PlainStatement}
 use Rattle.mm_text.specs.Files.{PlainFile}
 use Rattle.mm_text.specs.Reading.{Reads}
-use Rattle.mm_text.specs.declared.statement.Kind.TheVariants.{Provable}
+use Rattle.mm_base.specs.declared.statement.Kind.TheVariants.{Provable}
 use Rattle.mm_text.specs.Replaced.{with_span, with_bytes, IsMoved}
-use Rattle.mm_text.proofs.Lists.{zip_mapped, zip_weaker}
+use Rattle.mm_base.proofs.Lists.{zip_mapped, zip_weaker}
 use Rattle.mm_frame.specs.Sentence.{Sentence, sentence_of}
 use Rattle.mm_step.specs.Tree.{Trees}
 use Rattle.mm_step.specs.declared.profile.Profile.{Profile}

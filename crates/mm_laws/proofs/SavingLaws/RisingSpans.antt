@@ -3,18 +3,18 @@ use Rattle.std.proofs.Common.{◌≡◌, ℕ, List, [], ◌∷◌, ◌++◌, Boo
 use Rattle.std.proofs.Common.{cond, refl, ap, ◌∙◌, ◌+◌, ◌≤◌, map}
 use Rattle.std.proofs.Common.{length, sym, arith, slice_get, Some, None}
 use Rattle.std.specs.List.{AllZip}
-use Rattle.mm_text.specs.Statement.{PlainStatement, is_provable}
+use Rattle.mm_base.specs.Statement.{PlainStatement, is_provable}
 use Rattle.mm_text.specs.Replaced.{placeless, IsMoved}
 use Rattle.mm_proof.specs.Tokens.{is_incomplete}
 use Rattle.mm_save.specs.AllSaved.{is_theorem_of, theorems_of}
 use Rattle.mm_check.proofs.AlikeVerdicts.{same_sentence, same_proof}
 use Rattle.mm_verdict.proofs.FileBytes.StatementsInFiles.{nowhere, provable_proof, within_bytes}
-use Rattle.mm_text.specs.declared.statement.Kind.TheVariants.{Provable}
+use Rattle.mm_base.specs.declared.statement.Kind.TheVariants.{Provable}
 use Rattle.mm_text.specs.Files.{PlainFile}
 use Rattle.mm_text.specs.Reading.{Reads}
 use Rattle.mm_text.proofs.Replaced.ProofSpans.{proof_spans_follow_holds}
 use Rattle.mm_text.proofs.Replaced.ProofSpans.{proofs_stand_in_spans_holds}
-use Rattle.mm_text.proofs.Lists.{mapped_zip, zip_both}
+use Rattle.mm_base.proofs.Lists.{mapped_zip, zip_both}
 use Rattle.mm_save.proofs.Saving.FileSpans.{theorem_complete, theorem_home}
 
 -- wherever its tokens stand

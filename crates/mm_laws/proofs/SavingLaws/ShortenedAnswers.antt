@@ -4,8 +4,8 @@ use Rattle.std.proofs.Common.{◌≡◌, ℕ, ◌<◌, List, [], take, length, s
 use Rattle.std.proofs.Common.{true, Some, inl, inr, sym, ap}
 use Rattle.std.proofs.Common.{subst, ◌∙◌, arith, Contains}
 use Rattle.std.proofs.lemmas.Option.{same_Some}
-use Rattle.mm_text.specs.declared.statement.Kind.TheVariants.{Axiom}
-use Rattle.mm_text.specs.Statement.{PlainStatement}
+use Rattle.mm_base.specs.declared.statement.Kind.TheVariants.{Axiom}
+use Rattle.mm_base.specs.Statement.{PlainStatement}
 use Rattle.mm_text.specs.Files.{PlainFile}
 use Rattle.mm_text.specs.Replaced.{with_bytes}
 use Rattle.mm_frame.specs.Sentence.{Sentence, sentence_of, IsLabelled}

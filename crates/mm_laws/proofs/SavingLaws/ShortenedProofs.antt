@@ -3,10 +3,10 @@
 use Rattle.std.proofs.Common.{◌≡◌, ℕ, ◌≤◌, List, [], ◌∷◌, ◌++◌, take, length, slice_get, Bool, true}
 use Rattle.std.proofs.Common.{Some, inl, inr, sym, ap, ◌∙◌, arith}
 use Rattle.std.proofs.Math.Seq.{take-append_seam}
-use Rattle.mm_text.specs.Statement.{PlainStatement}
+use Rattle.mm_base.specs.Statement.{PlainStatement}
 use Rattle.mm_text.specs.Files.{PlainFile, total_bytes}
 use Rattle.mm_text.specs.Replaced.{with_bytes}
-use Rattle.mm_text.proofs.Lists.{get_parted}
+use Rattle.mm_base.proofs.Lists.{get_parted}
 use Rattle.mm_frame.specs.Sentence.{Sentence, sentence_of}
 use Rattle.mm_frame.proofs.Rules.ObeyedRules.{one_label}
 use Rattle.mm_step.specs.declared.profile.Profile.{Profile}

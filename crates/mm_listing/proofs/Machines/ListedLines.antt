@@ -5,8 +5,8 @@ use Rattle.std.proofs.Common.{arith, ⊎_elim, ◌-◌}
 use Rattle.std.proofs.lemmas.Bool.{false≢true}
 use Rattle.std.proofs.lemmas.Option.{slice_get_within, same_Some}
 use Rattle.std.proofs.lemmas.List.{take-append-le, take_at, length-append, length-map}
-use Rattle.mm_text.proofs.Lists.{split_at, get_kept, pushed_cases, zip_left, zip_push, zip_front}
-use Rattle.mm_text.proofs.Lists.{all_at, all_weaker, get_pushed}
+use Rattle.mm_base.proofs.Lists.{split_at, get_kept, pushed_cases, zip_left, zip_push, zip_front}
+use Rattle.mm_base.proofs.Lists.{all_at, all_weaker, get_pushed}
 use Rattle.mm_frame.specs.Sentence.{Sentence}
 use Rattle.mm_step.specs.Tree.{none, tree, beside, roots, DeriveAll}
 use Rattle.mm_step.specs.Moves.{Move, name, again, mark, is_step, steps_in, Makes}

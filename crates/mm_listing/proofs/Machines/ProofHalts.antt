@@ -6,7 +6,7 @@ use Rattle.std.specs.List.{AllByRecursion}
 use Rattle.std.proofs.lemmas.Option.{slice_get_within, slice_get-map, same_Some, slice_get-get_or}
 use Rattle.std.proofs.lemmas.List.{length-take-le, length-map, take-map}
 use Rattle.std.proofs.lemmas.Slice.Zip.{AllZip-long}
-use Rattle.mm_text.proofs.Lists.{split_at, all_at, all_there, get_from_take, zip_left, zip_take}
+use Rattle.mm_base.proofs.Lists.{split_at, all_at, all_there, get_from_take, zip_left, zip_take}
 use Rattle.mm_code.specs.declared.code.Code.{Code}
 use Rattle.mm_frame.specs.Sentence.{Sentence}
 use Rattle.mm_frame.specs.Rules.{AllMeant}

@@ -7,8 +7,8 @@ use Rattle.std.proofs.lemmas.Bool.{false≢true}
 use Rattle.std.proofs.lemmas.Option.{slice_get_within}
 use Rattle.std.proofs.lemmas.List.{take-append-le, take_at, length-append, length-map}
 use Rattle.std.proofs.lemmas.List.{length-take-le}
-use Rattle.mm_text.proofs.Lists.{get_kept, get_before, get_from_take, get_pushed, last_cut}
-use Rattle.mm_text.proofs.Lists.{zip_left, zip_front}
+use Rattle.mm_base.proofs.Lists.{get_kept, get_before, get_from_take, get_pushed, last_cut}
+use Rattle.mm_base.proofs.Lists.{zip_left, zip_front}
 use Rattle.mm_frame.specs.Sentence.{Sentence}
 use Rattle.mm_frame.specs.Rules.{AllMeant}
 use Rattle.mm_step.specs.declared.fault.ProofRule.{ProofRule}

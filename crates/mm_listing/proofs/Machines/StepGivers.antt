@@ -7,7 +7,7 @@ use Rattle.std.proofs.lemmas.Bool.{false≢true}
 use Rattle.std.proofs.lemmas.Option.{none-some}
 use Rattle.std.proofs.lemmas.List.{take_more, map-append, length-map, length-take-le, length-append}
 use Rattle.std.proofs.lemmas.List.{take-append-le, take_at}
-use Rattle.mm_text.proofs.Lists.{at_from_contains, contains_from_at, split_at}
+use Rattle.mm_base.proofs.Lists.{at_from_contains, contains_from_at, split_at}
 use Rattle.mm_frame.specs.Frame.{AreThose}
 use Rattle.mm_step.specs.declared.call.Call.{Call}
 use Rattle.mm_step.specs.Moves.{Move, mark, is_step, steps_in}

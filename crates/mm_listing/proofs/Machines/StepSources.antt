@@ -8,9 +8,9 @@ use Rattle.std.proofs.lemmas.Bool.{cases_lt, false≢true}
 use Rattle.std.proofs.lemmas.Option.{same_Some, slice_get_within, slice_get-get_or, slice_get-map}
 use Rattle.std.proofs.lemmas.Option.{get_or_from_slice_get}
 use Rattle.std.proofs.lemmas.List.{nil_from_length, length-drop, length-append, take-append-le, take-append-drop}
-use Rattle.mm_text.specs.declared.statement.Kind.TheVariants.{Floating, Essential}
-use Rattle.mm_text.proofs.Lists.{at_from_contains, get_kept, get_take, get_within, split_at}
-use Rattle.mm_text.proofs.Lists.{zip_weaker}
+use Rattle.mm_base.specs.declared.statement.Kind.TheVariants.{Floating, Essential}
+use Rattle.mm_base.proofs.Lists.{at_from_contains, get_kept, get_take, get_within, split_at}
+use Rattle.mm_base.proofs.Lists.{zip_weaker}
 use Rattle.mm_frame.specs.Sentence.{Sentence}
 use Rattle.mm_frame.specs.Frame.{AreThose}
 use Rattle.mm_frame.specs.FrameIndex.{IsTypingOf}

@@ -4,7 +4,7 @@ use Rattle.std.proofs.Common.{get_or, slice_get, Some, Bool, true, Contains, All
 use Rattle.std.proofs.Common.{ap, subst, ◌∙◌, arith, Vec}
 use Rattle.std.proofs.lemmas.Option.{slice_get-get_or, none-some}
 use Rattle.std.proofs.lemmas.List.{map-append, length-map, length-append}
-use Rattle.mm_text.proofs.Lists.{get_within, zip_front, zip_push}
+use Rattle.mm_base.proofs.Lists.{get_within, zip_front, zip_push}
 use Rattle.mm_frame.specs.Sentence.{Sentence}
 use Rattle.mm_frame.specs.Frame.{AreThose}
 use Rattle.mm_step.specs.declared.call.Call.{Call}

@@ -6,7 +6,7 @@ use Rattle.mm_frame.specs.Numbers.{labelled_sentences, symbols_of, AreNumbers, I
 use Rattle.mm_frame.specs.Sentence.{Sentence}
 use Rattle.mm_frame.proofs.Names.LabelNumbers.{numbered_get, numbered_grow}
 use Rattle.mm_frame.proofs.Names.NameNumbers.{same_somes, symbols_unique}
-use Rattle.mm_text.proofs.Lists.{get_from_take, one_there, at_from_contains}
+use Rattle.mm_base.proofs.Lists.{get_from_take, one_there, at_from_contains}
 use Rattle.mm_step.specs.Plain.{ids_in}
 use Rattle.mm_step.specs.Tree.{Trees}
 use Rattle.mm_proof.specs.Used.{AreUsed}
@@ -25,7 +25,7 @@ use Rattle.mm_frame.specs.declared.number.Sym.{Sym}
 use Rattle.mm_frame.proofs.Names.LabelNumbers.{numbered_some}
 use Rattle.std.proofs.lemmas.List.Elements.{Contains-append_left}
 use Rattle.mm_frame.proofs.Names.NameNumbers.{get_mapped}
-use Rattle.mm_text.proofs.Lists.{contains_from_at}
+use Rattle.mm_base.proofs.Lists.{contains_from_at}
 
 -- ---- type codes
 

@@ -5,8 +5,8 @@ use Rattle.std.proofs.Common.{◌⊎◌, inl, inr, refl, sym, ap, subst, ◌∙�
 use Rattle.std.proofs.Common.{append-nil}
 use Rattle.std.proofs.lemmas.Bool.{false_from_ne_true}
 use Rattle.std.proofs.lemmas.List.Elements.{filter-append}
-use Rattle.mm_text.specs.declared.statement.Kind.TheVariants.{Provable}
-use Rattle.mm_text.specs.Statement.{PlainStatement, HasForm, plain_statement}
+use Rattle.mm_base.specs.declared.statement.Kind.TheVariants.{Provable}
+use Rattle.mm_base.specs.Statement.{PlainStatement, HasForm, plain_statement}
 use Rattle.mm_text.specs.Reading.{Reads}
 use Rattle.mm_frame.specs.declared.number.LabelId.{LabelId}
 use Rattle.mm_frame.specs.Sentence.{Sentence, sentence_of}
@@ -38,7 +38,7 @@ use Rattle.mm_verdict.proofs.Verdicts.AcceptedStatements.{same_reading}
 use Rattle.mm_minimize.specs.Mirror.AllShortening.{MayReplace}
 use Rattle.mm_save.proofs.Saving.FilesUnderWay.{follows_next, replaced_next, stands_next}
 use Rattle.mm_save.proofs.Saving.FilesUnderWay.{rewrite_fault, rewritten, way_next, way_past}
-use Rattle.mm_text.proofs.Lists.{zip_weaker}
+use Rattle.mm_base.proofs.Lists.{zip_weaker}
 
 -- ==== what may stand in place of a theorem's proof
 

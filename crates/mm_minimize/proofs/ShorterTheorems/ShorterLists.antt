@@ -6,11 +6,11 @@ use Rattle.std.specs.List.{AllByRecursion, flat_map, sum_by}
 use Rattle.std.proofs.lemmas.List.{map-append}
 use Rattle.std.proofs.lemmas.Grind.{flat_map-append}
 use Rattle.std.proofs.lemmas.List.Sums.{sum_by-append, sum_by-cons}
-use Rattle.mm_text.specs.Statement.{PlainStatement, HasForm}
+use Rattle.mm_base.specs.Statement.{PlainStatement, HasForm}
 use Rattle.mm_text.specs.Reading.{Reads}
-use Rattle.mm_text.specs.declared.statement.Kind.TheVariants.{Provable}
-use Rattle.mm_text.proofs.Lists.{all_at, all_push, at_from_contains}
-use Rattle.mm_text.proofs.Lists.{all_within}
+use Rattle.mm_base.specs.declared.statement.Kind.TheVariants.{Provable}
+use Rattle.mm_base.proofs.Lists.{all_at, all_push, at_from_contains}
+use Rattle.mm_base.proofs.Lists.{all_within}
 use Rattle.mm_frame.specs.Numbers.{labelled_sentences}
 use Rattle.mm_frame.specs.Sentence.{Sentence, sentence_of, IsLabelled}
 use Rattle.mm_minimize.specs.declared.compared.Compared.{Compared}

@@ -2,7 +2,7 @@
 -- text, is told of the statements of the files.
 use Rattle.std.proofs.Common.{◌≡◌, ◌↔◌, ℕ, ◌+◌, ◌<◌, ◌≤◌, List, take, length, slice_get, Contains}
 use Rattle.std.proofs.Common.{true, Some, None, ◌⊎◌, inl, inr, refl, sym, subst, arith}
-use Rattle.mm_text.specs.Statement.{PlainStatement}
+use Rattle.mm_base.specs.Statement.{PlainStatement}
 use Rattle.mm_text.specs.Files.{PlainFile}
 use Rattle.mm_text.specs.Reading.{Reads}
 use Rattle.mm_frame.specs.Numbers.{labelled_sentences}

@@ -9,18 +9,18 @@ use Rattle.std.specs.List.{AllByRecursion}
 use Rattle.std.proofs.lemmas.List.{length-drop, length-map, length-set, map-append}
 use Rattle.std.proofs.Common.{drop, length-take}
 use Rattle.std.proofs.lemmas.Option.{slice_get_within}
-use Rattle.mm_text.specs.declared.file.File.{File}
-use Rattle.mm_text.specs.Statement.{PlainStatement, HasForm}
-use Rattle.mm_text.specs.declared.token.Token.{Token}
-use Rattle.mm_text.specs.Token.{PlainToken, plain_token}
+use Rattle.mm_base.specs.declared.file.File.{File}
+use Rattle.mm_base.specs.Statement.{PlainStatement, HasForm}
+use Rattle.mm_base.specs.declared.token.Token.{Token}
+use Rattle.mm_base.specs.Token.{PlainToken, plain_token}
 use Rattle.mm_text.proofs.Reader.WholeReadings.{readings_are_formed_in_place}
 use Rattle.std.proofs.lemmas.Slice.{between_is}
 use Rattle.mm_text.specs.Files.{PlainFile, plain_file}
 use Rattle.mm_text.specs.Reading.{Reads, IsInPlace}
 use Rattle.mm_text.specs.Remaining.{Remaining}
 use Rattle.mm_text.specs.Remarks.{headings, is_heading, mathbox_at, IsSaidBefore}
-use Rattle.mm_text.proofs.Lists.{all_at, get_before, get_parted, get_pushed, get_set_cases}
-use Rattle.mm_text.proofs.Lists.{one_there, pushed_cases}
+use Rattle.mm_base.proofs.Lists.{all_at, get_before, get_parted, get_pushed, get_set_cases}
+use Rattle.mm_base.proofs.Lists.{one_there, pushed_cases}
 use Rattle.mm_text.proofs.SaidBefore.{headings-zero}
 use Rattle.mm_frame.proofs.Names.LabelNumbers.{labelled_pass, labelled_push, numbered_fall, numbered_last}
 use Rattle.mm_frame.proofs.Names.LabelNumbers.{numbered_within}

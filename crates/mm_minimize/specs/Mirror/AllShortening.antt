@@ -3,7 +3,7 @@
 use Rattle.std.specs.Prelude.{◌≡◌, ℕ, ◌≤◌, ◌⊎◌, List, Bool, length, map}
 use Rattle.std.specs.Prelude.{None, ◌+◌, ◌++◌, ◌<◌, min}
 use Rattle.std.specs.List.{AllByRecursion}
-use Rattle.mm_text.specs.Statement.{PlainStatement}
+use Rattle.mm_base.specs.Statement.{PlainStatement}
 use Rattle.mm_text.specs.Reading.{Reads}
 use Rattle.mm_frame.specs.Sentence.{sentence_of, IsLabelled}
 use Rattle.mm_render.specs.declared.forms.OwnProof.{OwnProof}

@@ -2,7 +2,7 @@
 -- contracts alone.
 use Rattle.std.specs.Prelude.{◌≡◌, ℕ, List, Contains, true, slice_get, length, take}
 use Rattle.std.specs.Prelude.{◌↔◌, ◌≤◌, None, Some}
-use Rattle.mm_text.specs.Statement.{PlainStatement}
+use Rattle.mm_base.specs.Statement.{PlainStatement}
 use Rattle.mm_text.specs.Files.{PlainFile}
 use Rattle.mm_text.specs.Reading.{Reads}
 use Rattle.mm_text.specs.Remarks.{mathbox_at}

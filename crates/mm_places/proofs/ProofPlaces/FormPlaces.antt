@@ -3,7 +3,7 @@
 use Rattle.std.proofs.Common.{◌≡◌, ℕ, ◌+◌, ◌<◌, List, ◌∷◌, length, inl, inr, refl, subst, ap, arith}
 use Rattle.std.proofs.lemmas.List.{length-append, length-map}
 use Rattle.std.proofs.lemmas.Option.{slice_get_within}
-use Rattle.mm_text.specs.declared.token.Token.{Token}
+use Rattle.mm_base.specs.declared.token.Token.{Token}
 use Rattle.mm_frame.specs.Sentence.{Sentence}
 use Rattle.mm_proof.specs.declared.form.Loose.TheVariants as loose
 use Rattle.mm_step.specs.Moves.{Move, mark}

@@ -11,10 +11,10 @@ use Rattle.std.proofs.lemmas.Grind.{flat_map-append}
 use Rattle.std.proofs.lemmas.List.{length-append, map-append, length-map, length-take}
 use Rattle.std.proofs.lemmas.List.{length-take-le, take-append-le, take_rest}
 use Rattle.std.proofs.lemmas.Option.{slice_get_within, none-some, same_Some}
-use Rattle.mm_text.specs.declared.token.Token.{Token}
-use Rattle.mm_text.proofs.Lists.{get_after, get_kept, get_in_front, get_take, get_from_take}
-use Rattle.mm_text.proofs.Lists.{contains_from_at, append_cases, all_push, zip_push, split_at}
-use Rattle.mm_text.proofs.Lists.{cons_parts, get_parted, get_within}
+use Rattle.mm_base.specs.declared.token.Token.{Token}
+use Rattle.mm_base.proofs.Lists.{get_after, get_kept, get_in_front, get_take, get_from_take}
+use Rattle.mm_base.proofs.Lists.{contains_from_at, append_cases, all_push, zip_push, split_at}
+use Rattle.mm_base.proofs.Lists.{cons_parts, get_parted, get_within}
 use Rattle.mm_code.specs.declared.code.Code.{Code}
 use Rattle.mm_code.specs.declared.code.Code.TheVariants.{Number, Tag}
 use Rattle.mm_code.specs.declared.code.CodeRule.TheVariants as code

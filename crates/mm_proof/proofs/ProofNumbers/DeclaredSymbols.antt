@@ -4,8 +4,8 @@ use Rattle.std.proofs.Common.{Option, Some, None, unwrap_or, option_map, ◌⊎�
 use Rattle.std.proofs.Common.{refl, sym, ap, subst, ◌∙◌, arith}
 use Rattle.std.specs.List.{AllByRecursion, flat_map}
 use Rattle.std.proofs.lemmas.Option.{slice_get-map}
-use Rattle.mm_text.proofs.Lists.{all_at}
-use Rattle.mm_text.specs.declared.statement.Kind.TheVariants.{Constants, Variables}
+use Rattle.mm_base.proofs.Lists.{all_at}
+use Rattle.mm_base.specs.declared.statement.Kind.TheVariants.{Constants, Variables}
 use Rattle.mm_frame.specs.Sentence.{Sentence, IsUse, Declares}
 use Rattle.mm_frame.specs.Frame.{IsMandatory}
 use Rattle.mm_frame.specs.Rules.{AllMeant}

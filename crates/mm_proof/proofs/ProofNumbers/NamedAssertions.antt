@@ -6,7 +6,7 @@ use Rattle.std.specs.List.{AllByRecursion, AllZip}
 use Rattle.std.proofs.lemmas.Option.{same_Some, slice_get-map, slice_get-get_or, slice_get_within}
 use Rattle.std.proofs.lemmas.Option.{get_or_from_slice_get}
 use Rattle.std.proofs.lemmas.List.{get_or-map, length-map, drop-map}
-use Rattle.mm_text.proofs.Lists.{get_from_take, same_length}
+use Rattle.mm_base.proofs.Lists.{get_from_take, same_length}
 use Rattle.mm_frame.specs.declared.number.Sym.{Sym}
 use Rattle.mm_frame.specs.declared.piece.Piece.{Piece}
 use Rattle.mm_frame.specs.declared.hypothesis.Hypothesis.{Hypothesis}

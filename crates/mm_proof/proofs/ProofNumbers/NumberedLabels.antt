@@ -9,7 +9,7 @@ use Rattle.mm_frame.proofs.Names.LabelNumbers.{numbered_rise}
 use Rattle.mm_step.specs.Moves.{Move, name, again, mark}
 use Rattle.mm_step.specs.Steps.{IsNumberedMove, AreSteps, IsProofNumber, IsUsableMove}
 use Rattle.mm_proof.specs.Mirror.CodeSteps.{IsUnknown, IsReading}
-use Rattle.mm_text.proofs.Lists.{get_from_take}
+use Rattle.mm_base.proofs.Lists.{get_from_take}
 use Rattle.mm_step.proofs.ProofSteps.OneStep.{one_label}
 use Rattle.std.specs.List.{AllByRecursion}
 use Rattle.std.proofs.lemmas.Option.{same_Some}

@@ -9,8 +9,8 @@ use Rattle.std.proofs.lemmas.Option.{same_Some, none-some}
 use Rattle.std.proofs.lemmas.List.Elements.{Contains-append_left, Contains-append_right}
 use Rattle.std.proofs.lemmas.List.Elements.{Contains-append_cases, Contains-push}
 use Rattle.std.proofs.lemmas.List.Elements.{Contains-push_cases}
-use Rattle.mm_text.proofs.Lists.{all_push, all_at, all_weaker, zip_left, zip_right, get_take}
-use Rattle.mm_text.proofs.Lists.{get_from_take, get_kept, get_pushed, pushed_cases}
+use Rattle.mm_base.proofs.Lists.{all_push, all_at, all_weaker, zip_left, zip_right, get_take}
+use Rattle.mm_base.proofs.Lists.{get_from_take, get_kept, get_pushed, pushed_cases}
 use Rattle.mm_frame.specs.Sentence.{Sentence, IsAssertion, IsLabelled}
 use Rattle.mm_step.specs.Tree.{Trees, none, tree, spelling}
 use Rattle.mm_step.specs.Moves.{Move, name, again, mark, MakesOne, Makes}

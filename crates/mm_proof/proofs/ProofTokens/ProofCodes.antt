@@ -14,8 +14,8 @@ use Rattle.mm_code.specs.declared.code.Code.TheVariants.{Number, Tag}
 use Rattle.mm_code.specs.Letters.{Letters, LettersBreak as Breaks, HasSpelling, Fills}
 use Rattle.mm_code.specs.declared.code.CodeRule.{CodeRule}
 use Rattle.mm_code.specs.declared.code.CodeFault.{CodeFault}
-use Rattle.mm_text.specs.declared.token.Token.{Token}
-use Rattle.mm_text.proofs.Lists.{zip_append, split_at, get_from_take, get_kept, zip_push}
+use Rattle.mm_base.specs.declared.token.Token.{Token}
+use Rattle.mm_base.proofs.Lists.{zip_append, split_at, get_from_take, get_kept, zip_push}
 use Rattle.mm_frame.specs.Sentence.{Sentence, IsLabelled, IsHypothesis}
 use Rattle.mm_frame.specs.Active.{IsActive}
 use Rattle.mm_frame.specs.Rules.{AllMeant}

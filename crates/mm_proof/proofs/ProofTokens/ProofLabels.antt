@@ -3,13 +3,13 @@
 use Rattle.std.proofs.Common.{◌≡◌, ℕ, zero, suc, ◌+◌, ◌<◌, ◌≤◌, List, [], ◌∷◌, ◌++◌, length, map}
 use Rattle.std.proofs.Common.{take, get_or, Contains, Bool, true, false, ⊎_elim, refl, sym, ap}
 use Rattle.std.proofs.Common.{subst, ◌∙◌, arith, drop, slice_get, Some, inl, inr}
-use Rattle.mm_text.specs.declared.token.Token.{Token}
+use Rattle.mm_base.specs.declared.token.Token.{Token}
 use Rattle.mm_frame.specs.Sentence.{Sentence, IsLabelled, IsHypothesis}
 use Rattle.std.proofs.lemmas.List.{map_more, take-map, map-append, take_all, length-map}
 use Rattle.std.proofs.lemmas.List.Elements.{Contains-push, Contains-push_cases}
 use Rattle.std.proofs.lemmas.List.Elements.{Contains-append_left}
-use Rattle.mm_text.proofs.Lists.{zip_push, get_take, get_from_take, at_from_contains, zip_right}
-use Rattle.mm_text.proofs.Lists.{zip_left, zip_weaker}
+use Rattle.mm_base.proofs.Lists.{zip_push, get_take, get_from_take, at_from_contains, zip_right}
+use Rattle.mm_base.proofs.Lists.{zip_left, zip_weaker}
 use Rattle.mm_frame.specs.declared.number.LabelId.{LabelId}
 use Rattle.mm_step.specs.Plain.{ids_in, token_texts}
 use Rattle.mm_proof.specs.Mirror.CodeSteps.{AreFor, IsIdle, IsUnknown, BreaksLabels}

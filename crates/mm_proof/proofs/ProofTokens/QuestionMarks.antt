@@ -9,7 +9,7 @@ use Rattle.std.proofs.lemmas.Option.{slice_get_past}
 use Rattle.std.proofs.lemmas.List.{length-take, length-map, get_or-map, take-map, map-append}
 use Rattle.std.proofs.lemmas.List.Folds.{list_any_more, list_all_at, Any-from_list_any}
 use Rattle.std.proofs.lemmas.List.Sums.{sum_by-append, sum_by-take-le}
-use Rattle.mm_text.specs.declared.token.Token.{Token}
+use Rattle.mm_base.specs.declared.token.Token.{Token}
 use Rattle.mm_step.specs.Plain.{token_texts}
 use Rattle.mm_proof.specs.Tokens.{is_question, is_unknown, opening_token, closing_token}
 use Rattle.mm_proof.specs.Tokens.{IsIncomplete, IsCompressed, AreLabels, SayMoves}
@@ -17,12 +17,12 @@ use Rattle.mm_proof.specs.KnownPrefix.{token_of, known_piece, known_tokens, know
 use Rattle.mm_proof.specs.KnownPrefix.{known_prefix}
 use Rattle.mm_proof.specs.KnownPrefix.{begins_list, ends_list}
 use Rattle.mm_proof.proofs.ProofTokens.ProofLabels.{text_at, prefix_all}
-use Rattle.mm_text.proofs.Lists.{any_found}
+use Rattle.mm_base.proofs.Lists.{any_found}
 use Rattle.std.proofs.lemmas.List.Elements.{Contains-append_left, Contains-append_right}
 use Rattle.std.proofs.lemmas.List.Elements.{Contains-append_cases}
 use Rattle.std.proofs.lemmas.Bool.{eqb-true}
-use Rattle.mm_text.specs.Token.{is_label_byte}
-use Rattle.mm_text.proofs.Reader.OneToken.{label_bytes}
+use Rattle.mm_base.specs.Token.{is_label_byte}
+use Rattle.mm_base.proofs.LabelBytes.{label_bytes}
 use Rattle.mm_frame.specs.Sentence.{Sentence}
 use Rattle.mm_frame.specs.Form.{AllFormed}
 use Rattle.mm_frame.proofs.Rules.ObeyedRules.{allformed_prefix}

@@ -3,7 +3,7 @@ use Rattle.std.proofs.Common.{◌≡◌, ℕ, ◌<◌, List, [], ◌∷◌, map,
 use Rattle.std.proofs.Common.{Some, inl, inr, refl, sym, subst, arith, ⊎_elim}
 use Rattle.std.proofs.Common.{Option, ◌∙◌}
 use Rattle.std.proofs.lemmas.List.Elements.{Contains-append_cases}
-use Rattle.mm_text.proofs.Lists.{contains_from_at, zip_left, mapped_zip}
+use Rattle.mm_base.proofs.Lists.{contains_from_at, zip_left, mapped_zip}
 use Rattle.mm_code.specs.declared.code.CodeRule.{CodeRule}
 use Rattle.mm_code.specs.Letters.{LettersBreak}
 use Rattle.mm_frame.specs.Sentence.{Sentence, SomeSentence, IsLabelled, IsHypothesis, IsAssertion}

@@ -11,7 +11,7 @@ use Rattle.mm_proof.specs.Answer.{OnRule, IsUnlessMemory}
 use Rattle.std.proofs.lemmas.Result.{IfErr-weaker, err_from_is_err_and}
 use Rattle.std.proofs.lemmas.Option.{same_Some, none-some, slice_get-get_or, slice_get_within}
 use Rattle.std.proofs.lemmas.Bool.{cases_order, cases_lt}
-use Rattle.mm_text.proofs.Lists.{two_cuts}
+use Rattle.mm_base.proofs.Lists.{two_cuts}
 use Rattle.mm_frame.specs.Sentence.{Sentence}
 use Rattle.mm_frame.specs.Rules.{AllMeant}
 use Rattle.mm_step.specs.declared.fault.ProofRule.TheVariants.{P1, P2, P3, P4, P5, P6, P7, P8, P9}
@@ -34,7 +34,7 @@ use Rattle.mm_proof.proofs.ProofTokens.SaidMoves.{moves_once}
 use Rattle.std.specs.List.{AllByRecursion}
 use Rattle.std.proofs.lemmas.List.{length-drop, take-append-drop}
 use Rattle.std.proofs.Math.Decide.{ℕ_discrete}
-use Rattle.mm_text.specs.declared.statement.Kind.TheVariants.{Floating, Essential}
+use Rattle.mm_base.specs.declared.statement.Kind.TheVariants.{Floating, Essential}
 use Rattle.mm_frame.specs.Frame.{IsMandatoryAt, AreMandatory}
 use Rattle.mm_frame.proofs.Rules.DecidedStatements.{dec_both, dec_as, dec_some, kind_dec}
 use Rattle.mm_frame.proofs.Rules.DecidedStatements.{symbol_dec, dec_not, unless_not}

@@ -5,8 +5,8 @@ use Rattle.std.proofs.Common.{Err, take, drop, slice_get, Some, cond, refl, sym,
 use Rattle.std.proofs.Common.{arith, Contains, ◌↔◌, inl, inr, IsErrAnd}
 use Rattle.std.proofs.lemmas.Result.{err_from_is_err_and}
 use Rattle.std.proofs.lemmas.List.{length-append, length-map}
-use Rattle.mm_text.proofs.Lists.{all_push, all_at, all_back, zip_left, zip_front, split_at}
-use Rattle.mm_text.proofs.Lists.{zip_take, all_weaker, get_from_take, zip_each}
+use Rattle.mm_base.proofs.Lists.{all_push, all_at, all_back, zip_left, zip_front, split_at}
+use Rattle.mm_base.proofs.Lists.{zip_take, all_weaker, get_from_take, zip_each}
 use Rattle.mm_frame.specs.Sentence.{Sentence, IsHypothesis, IsAssertion, IsLabelled}
 use Rattle.mm_step.specs.declared.fault.ProofFault.{ProofFault}
 use Rattle.mm_step.specs.declared.fault.ProofRule.{ProofRule}

@@ -3,7 +3,7 @@ use Rattle.std.proofs.Common.{◌≡◌, ℕ, List, [], ◌∷◌, ◌++◌, map
 use Rattle.std.proofs.Common.{inl, ⊎_elim, refl, sym, ap, subst, ◌∙◌, ◌<◌, ◌≤◌}
 use Rattle.std.proofs.Common.{length, append-nil, arith}
 use Rattle.std.proofs.lemmas.Option.{slice_get_within}
-use Rattle.mm_text.proofs.Lists.{zip_push, zip_right, zip_left, zip_front}
+use Rattle.mm_base.proofs.Lists.{zip_push, zip_right, zip_left, zip_front}
 use Rattle.mm_frame.specs.Sentence.{Sentence}
 use Rattle.mm_frame.specs.Rules.{AllMeant}
 use Rattle.mm_step.specs.Substitution.{instance_of}

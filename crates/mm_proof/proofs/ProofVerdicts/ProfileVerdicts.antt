@@ -28,9 +28,9 @@ use Rattle.std.specs.List.{AllZip, AllByRecursion}
 use Rattle.std.proofs.Math.Decide.{ℕ_discrete}
 use Rattle.mm_frame.specs.Frame.{AreMandatory}
 use Rattle.mm_frame.specs.Form.{AllFormed}
-use Rattle.mm_text.specs.declared.statement.Kind.TheVariants.{Axiom, Provable}
-use Rattle.mm_text.proofs.Lists.{get_before, get_parted, zip_left, zip_right, get_from_take}
-use Rattle.mm_text.proofs.Lists.{at_from_contains, contains_from_at}
+use Rattle.mm_base.specs.declared.statement.Kind.TheVariants.{Axiom, Provable}
+use Rattle.mm_base.proofs.Lists.{get_before, get_parted, zip_left, zip_right, get_from_take}
+use Rattle.mm_base.proofs.Lists.{at_from_contains, contains_from_at}
 use Rattle.mm_frame.proofs.Rules.DecidedStatements.{dec_both, dec_as, dec_some, kind_dec}
 use Rattle.mm_frame.proofs.Rules.DecidedStatements.{contains_dec, dec_not, dec_or}
 use Rattle.mm_frame.proofs.Frames.FrameLaws.{mandatory_unique}

@@ -27,9 +27,9 @@ use Rattle.mm_proof.specs.WholePlaces.{IsSpareLabel, IsLooseMark}
 use Rattle.mm_step.proofs.ByNumbers.CalledAssertions.{entry_at}
 use Rattle.mm_proof.proofs.ProofNumbers.UsedAssertions.{named_by}
 use Rattle.std.specs.List.{AllByRecursion, AllZip}
-use Rattle.mm_text.proofs.Lists.{zip_left, zip_right, all_at, split_at, get_before, get_parted}
-use Rattle.mm_text.proofs.Lists.{get_take, get_from_take, at_from_contains, contains_from_at}
-use Rattle.mm_text.proofs.Lists.{mapped_zip, get_kept}
+use Rattle.mm_base.proofs.Lists.{zip_left, zip_right, all_at, split_at, get_before, get_parted}
+use Rattle.mm_base.proofs.Lists.{get_take, get_from_take, at_from_contains, contains_from_at}
+use Rattle.mm_base.proofs.Lists.{mapped_zip, get_kept}
 use Rattle.mm_frame.specs.Rules.{AllMeant}
 use Rattle.mm_frame.specs.Frame.{AreMandatory}
 use Rattle.mm_frame.specs.FrameIndex.{AreHypotheses}

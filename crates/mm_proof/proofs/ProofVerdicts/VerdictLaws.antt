@@ -1,7 +1,7 @@
 -- What the limit on expressions changes of the verdict on a proof.
 use Rattle.std.proofs.Common.{◌≡◌, ℕ, ◌+◌, List, [], ◌∷◌, ◌++◌, ◌⊎◌, inl, inr, ⊎_elim, refl, sym}
 use Rattle.std.proofs.Common.{subst, ◌∙◌, append_assoc, append-nil}
-use Rattle.mm_text.proofs.Lists.{zip_left}
+use Rattle.mm_base.proofs.Lists.{zip_left}
 use Rattle.mm_frame.specs.Sentence.{Sentence}
 use Rattle.mm_frame.specs.Rules.{AllMeant}
 use Rattle.mm_step.specs.declared.fault.ProofRule.TheVariants.{L1}

@@ -9,8 +9,8 @@ use Rattle.std.proofs.lemmas.Bool.{true≢false, ltb-true, ltb-false, le-ltb}
 use Rattle.std.proofs.lemmas.List.{length-append, length-take}
 use Rattle.std.proofs.lemmas.List.Sums.{sum_by-cons}
 use Rattle.std.proofs.lemmas.Option.{same_Some, slice_get_within}
-use Rattle.mm_text.proofs.Lists.{get_within, take_next, get_after, get_kept, get_before}
-use Rattle.mm_text.proofs.Lists.{append_cases, get_in_front, get_from_take, zip_right}
+use Rattle.mm_base.proofs.Lists.{get_within, take_next, get_after, get_kept, get_before}
+use Rattle.mm_base.proofs.Lists.{append_cases, get_in_front, get_from_take, zip_right}
 use Rattle.mm_code.specs.declared.code.Code.{Code}
 use Rattle.mm_code.specs.declared.code.Code.TheVariants.{Number, Tag}
 use Rattle.mm_code.specs.LetterCount.{letters_for, letters_of, letter_count}

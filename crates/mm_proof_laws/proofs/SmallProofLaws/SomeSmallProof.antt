@@ -10,7 +10,7 @@ use Rattle.std.proofs.lemmas.List.{length-append, get_or_push, get_or_append_lef
 use Rattle.std.proofs.lemmas.List.Sorted.{IsPermutation-refl, IsPermutation-cons}
 use Rattle.std.proofs.lemmas.List.Sorted.{IsPermutation-trans, IsPermutation-middle}
 use Rattle.std.proofs.lemmas.Option.{same_Some, none-some, slice_get-get_or, slice_get_within}
-use Rattle.mm_text.proofs.Lists.{get_within}
+use Rattle.mm_base.proofs.Lists.{get_within}
 use Rattle.mm_code.specs.declared.code.Code.{Code}
 use Rattle.mm_code.specs.LetterCount.{letter_count}
 use Rattle.mm_frame.specs.Sentence.{Sentence}

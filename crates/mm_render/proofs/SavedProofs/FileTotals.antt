@@ -2,7 +2,7 @@
 use Rattle.std.proofs.Common.{◌≡◌, ℕ, List, take, slice_get, true, Some, sym, ap}
 use Rattle.std.proofs.Common.{subst, ◌∙◌, suc, ◌∷◌, ◌++◌, drop}
 use Rattle.std.proofs.Common.{None, inl, inr}
-use Rattle.mm_text.specs.Statement.{PlainStatement}
+use Rattle.mm_base.specs.Statement.{PlainStatement}
 use Rattle.mm_frame.specs.Sentence.{Sentence, sentence_of}
 use Rattle.mm_step.specs.Tree.{none, tree}
 use Rattle.mm_rules.specs.Verdict.{sentences, is_proof}
@@ -14,7 +14,7 @@ use Rattle.mm_text.specs.Files.{PlainFile}
 use Rattle.mm_text.specs.Reading.{Reads}
 use Rattle.mm_text.specs.Replaced.{with_span, IsProofSpan}
 use Rattle.mm_text.proofs.Replaced.ProofSpans.{proofs_stand_in_spans_holds}
-use Rattle.mm_text.proofs.Lists.{split_at}
+use Rattle.mm_base.proofs.Lists.{split_at}
 use Rattle.mm_proof.specs.ReadSteps.{ReadSteps}
 use Rattle.mm_verdict.specs.declared.form.Form.{Form}
 use Rattle.mm_rules.specs.declared.ask.AskFault.{AskFault}

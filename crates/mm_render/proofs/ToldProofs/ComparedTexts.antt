@@ -6,7 +6,7 @@ use Rattle.std.proofs.Common.{refl}
 use Rattle.mm_code.specs.Words.{tokens_in}
 use Rattle.mm_render.specs.Mirror.Comparisons.{FailsAs, IsUnproved, IsTextRefused}
 use Rattle.mm_render.specs.Mirror.Comparisons.{IsComparedWith}
-use Rattle.mm_text.specs.Statement.{PlainStatement}
+use Rattle.mm_base.specs.Statement.{PlainStatement}
 use Rattle.mm_frame.specs.Sentence.{Sentence, sentence_of}
 use Rattle.mm_step.specs.declared.fault.ProofRule.{ProofRule}
 use Rattle.mm_step.specs.declared.fault.ProofFault.{ProofFault}

@@ -16,7 +16,7 @@ use Rattle.mm_rules.specs.Answer.{labels_at}
 use Rattle.mm_render.specs.Shown.{name_text, step_text, steps_text}
 use Rattle.mm_rules.specs.Shown.{symbols_text}
 use Rattle.mm_rules.proofs.Numbers.{names_at, numbers_within}
-use Rattle.mm_text.proofs.Lists.{zip_length, zip_left}
+use Rattle.mm_base.proofs.Lists.{zip_length, zip_left}
 use Rattle.mm_step.specs.declared.fault.ProofFault.TheVariants as faults
 
 -- ---- a line

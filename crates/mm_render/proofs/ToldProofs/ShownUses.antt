@@ -12,7 +12,7 @@ use Rattle.mm_listing.specs.declared.lines.Line.{Line}
 use Rattle.mm_step.specs.Moves.{Move}
 use Rattle.mm_proof.specs.Verified.{OfMoves}
 use Rattle.mm_listing.specs.Listing.{ListedStep, TellsStep}
-use Rattle.mm_text.specs.Statement.{PlainStatement}
+use Rattle.mm_base.specs.Statement.{PlainStatement}
 use Rattle.mm_rules.specs.Answer.{labels_at}
 use Rattle.mm_rules.specs.Verdict.{sentences}
 use Rattle.mm_render.specs.Shown.{name_text}

@@ -3,11 +3,11 @@ use Rattle.std.proofs.Common.{◌≡◌, ℕ, zero, suc, ◌<◌, List, [], ◌�
 use Rattle.std.proofs.Common.{slice_get}
 use Rattle.std.proofs.Common.{Some, inl, inr, sym, ap, subst, ◌∙◌, ◌++◌}
 use Rattle.std.proofs.Common.{get_or, ◌⊎◌, arith}
-use Rattle.mm_text.specs.Statement.{PlainStatement}
+use Rattle.mm_base.specs.Statement.{PlainStatement}
 use Rattle.mm_frame.specs.declared.number.LabelId.{LabelId}
 use Rattle.mm_frame.specs.Sentence.{Sentence, sentence_of, IsLabelled}
 use Rattle.mm_frame.specs.Numbers.{labelled_sentences}
-use Rattle.mm_text.proofs.Lists.{zip_length}
+use Rattle.mm_base.proofs.Lists.{zip_length}
 use Rattle.mm_step.specs.Tree.{Trees, spelling, none, tree}
 use Rattle.mm_rules.specs.Verdict.{sentences}
 use Rattle.mm_rules.specs.Rests.{IsAskFault}

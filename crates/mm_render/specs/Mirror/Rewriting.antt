@@ -1,7 +1,8 @@
 -- What the code knows on its way to a file with a proof written anew. This file mirrors the code,
 -- and is cited by private contracts alone.
 use Rattle.std.specs.Prelude.{◌≡◌, ℕ, ◌<◌, ◌≤◌, List, take, length, slice_get, Some, ◌⊎◌}
-use Rattle.mm_text.specs.Files.{most_bytes, PlainFile}
+use Rattle.mm_base.specs.MostBytes.{most_bytes}
+use Rattle.mm_text.specs.Files.{PlainFile}
 use Rattle.mm_text.specs.Replaced.{with_span}
 use Rattle.mm_frame.specs.Sentence.{Sentence}
 use Rattle.mm_step.specs.Moves.{Move}

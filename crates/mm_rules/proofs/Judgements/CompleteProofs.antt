@@ -1,10 +1,10 @@
 -- Whether a `$p` has a complete proof.
 use Rattle.std.proofs.Common.{◌≡◌, true}
 use Rattle.std.proofs.Common.{false, refl}
-use Rattle.mm_text.specs.Statement.{PlainStatement}
+use Rattle.mm_base.specs.Statement.{PlainStatement}
 use Rattle.mm_rules.specs.Verdict.{proof_of, is_proof}
 use Rattle.mm_rules.specs.Verdict.{is_unproved}
-use Rattle.mm_text.specs.declared.statement.Kind.TheVariants.{Provable}
+use Rattle.mm_base.specs.declared.statement.Kind.TheVariants.{Provable}
 use Rattle.mm_proof.specs.Tokens.{is_incomplete}
 
 -- a `$p` whose proof isn't incomplete has a complete one

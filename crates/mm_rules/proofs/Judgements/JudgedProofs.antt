@@ -4,11 +4,11 @@ use Rattle.std.proofs.Common.{Bool, true, false, Option, option_map, Result, Ok,
 use Rattle.std.proofs.Common.{inl, inr, refl, sym, ap, ◌∙◌, ◌<◌, Some, subst}
 use Rattle.std.proofs.lemmas.Bool.{both_ways, false_from_ne_true}
 use Rattle.std.proofs.Math.Seq.{take-append_seam}
-use Rattle.mm_text.specs.declared.token.Token.{Token}
-use Rattle.mm_text.specs.declared.statement.Kind.{Kind}
-use Rattle.mm_text.specs.declared.statement.Kind.TheVariants.{Provable}
-use Rattle.mm_text.specs.Token.{PlainToken, plain_token, tokens_from}
-use Rattle.mm_text.specs.Statement.{PlainStatement, HasForm, HasLabel}
+use Rattle.mm_base.specs.declared.token.Token.{Token}
+use Rattle.mm_base.specs.declared.statement.Kind.{Kind}
+use Rattle.mm_base.specs.declared.statement.Kind.TheVariants.{Provable}
+use Rattle.mm_base.specs.Token.{PlainToken, plain_token, tokens_from}
+use Rattle.mm_base.specs.Statement.{PlainStatement, HasForm, HasLabel}
 use Rattle.mm_frame.specs.Sentence.{Sentence, sentence_of}
 use Rattle.mm_frame.specs.Numbers.{labelled_sentences}
 use Rattle.mm_step.specs.declared.fault.ProofRule.{ProofRule}
@@ -22,7 +22,7 @@ use Rattle.mm_step.specs.declared.profile.Profile.{Profile}
 use Rattle.mm_step.specs.Profiles.{limit_of}
 use Rattle.mm_proof.specs.Strict.{HasFormOf}
 use Rattle.mm_proof.specs.UnderProfile.{IsFaultUnder, IsPrefixAllowedUnder, IsPrefixFaultUnder}
-use Rattle.mm_text.proofs.Lists.{one_parting, get_pushed, all_back}
+use Rattle.mm_base.proofs.Lists.{one_parting, get_pushed, all_back}
 use Rattle.mm_text.specs.Files.{PlainFile}
 use Rattle.mm_rules.specs.declared.rule.Rule.{Rule}
 use Rattle.mm_rules.specs.Verdict.{proof_of, refusal_of, IsProofFault, PlainRefusal, Refused}

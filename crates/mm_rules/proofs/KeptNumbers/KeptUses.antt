@@ -3,7 +3,7 @@ use Rattle.std.proofs.Common.{◌≡◌, ◌↔◌, ◌<◌, ℕ, List, [], leng
 use Rattle.std.proofs.lemmas.List.{length-map}
 use Rattle.std.proofs.lemmas.Option.{slice_get_within, same_Some}
 use Rattle.mm_frame.proofs.Names.NameNumbers.{get_mapped}
-use Rattle.mm_text.proofs.Lists.{at_from_contains, contains_from_at, get_within}
+use Rattle.mm_base.proofs.Lists.{at_from_contains, contains_from_at, get_within}
 use Rattle.std.proofs.Common.{sym, subst}
 use Rattle.mm_rules.specs.Conclusion.{ProofUses, numbers_of}
 use Rattle.mm_rules.specs.Rests.{AreRising}

@@ -5,7 +5,7 @@ use Rattle.std.proofs.Common.{◌||◌, Some, inl, inr, sym, ap, ◌∙◌}
 use Rattle.std.specs.List.{list_any}
 use Rattle.std.proofs.lemmas.Bool.{or_cases, eqb-true, or_right}
 use Rattle.mm_frame.specs.declared.number.LabelId.{LabelId}
-use Rattle.mm_text.proofs.Lists.{at_from_contains, contains_from_at}
+use Rattle.mm_base.proofs.Lists.{at_from_contains, contains_from_at}
 use Rattle.mm_step.specs.Plain.{ids_in}
 
 -- a number among labels, as a test finds it

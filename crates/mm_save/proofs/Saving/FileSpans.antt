@@ -4,7 +4,7 @@ use Rattle.std.proofs.Common.{eq-eqb, cond, ap, take, ◌∙◌, append-nil}
 use Rattle.std.specs.List.{AllZip}
 use Rattle.std.proofs.lemmas.Bool.{and_parts, eqb-true}
 use Rattle.std.proofs.lemmas.List.Elements.{filter-append}
-use Rattle.mm_text.specs.Statement.{PlainStatement}
+use Rattle.mm_base.specs.Statement.{PlainStatement}
 use Rattle.mm_frame.specs.Sentence.{sentence_of}
 use Rattle.mm_step.specs.Tree.{Trees, none, tree}
 use Rattle.mm_verdict.specs.declared.form.Form.{Form}

@@ -11,8 +11,8 @@ use Rattle.mm_save.specs.Mirror.AllSaving.{IsTheoremAmong}
 use Rattle.mm_save.specs.Mirror.AllSaving.{IsTheoremFault, replacement, IsAllWritten}
 use Rattle.mm_save.specs.Mirror.AllSaving.{PutsProof, KeepsLabel, IsWhole, IsFinishFault}
 use Rattle.mm_save.specs.Mirror.AllSaving.{AreReplacedSoFar, IsSoFar, IsWrittenSoFar, HasWritten}
-use Rattle.mm_text.specs.declared.statement.Kind.TheVariants.{Provable}
-use Rattle.mm_text.specs.Statement.{PlainStatement, HasForm}
+use Rattle.mm_base.specs.declared.statement.Kind.TheVariants.{Provable}
+use Rattle.mm_base.specs.Statement.{PlainStatement, HasForm}
 use Rattle.mm_frame.specs.Sentence.{Sentence, sentence_of, IsLabelled}
 use Rattle.mm_step.specs.declared.profile.Profile.TheVariants.{Lenient}
 use Rattle.mm_proof.specs.ReadSteps.{ReadSteps}
@@ -37,8 +37,9 @@ use Rattle.std.proofs.lemmas.Bool.{cases_lt, false_from_ne_true}
 use Rattle.std.proofs.lemmas.List.Elements.{filter-append}
 use Rattle.std.proofs.lemmas.Option.{slice_get_within}
 use Rattle.std.specs.List.{AllZip}
-use Rattle.mm_text.specs.Files.{PlainFile, most_bytes}
-use Rattle.mm_text.proofs.Lists.{get_kept, get_parted, unmapped, zip_weaker}
+use Rattle.mm_text.specs.Files.{PlainFile}
+use Rattle.mm_base.specs.MostBytes.{most_bytes}
+use Rattle.mm_base.proofs.Lists.{get_kept, get_parted, unmapped, zip_weaker}
 use Rattle.mm_frame.specs.declared.number.LabelId.{LabelId}
 use Rattle.mm_step.specs.declared.profile.Profile.{Profile}
 use Rattle.mm_verdict.specs.declared.form.Form.TheVariants.{Normal}

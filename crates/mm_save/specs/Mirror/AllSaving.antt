@@ -3,9 +3,10 @@
 use Rattle.std.specs.Prelude.{◌≡◌, ℕ, ◌<◌, ◌≤◌, List, [], ◌∷◌, ◌++◌, drop, length, slice_get}
 use Rattle.std.specs.Prelude.{slice_range, true, Option, Some, None, option_map, ◌⊎◌, sum_by}
 use Rattle.std.specs.List.{AllZip}
-use Rattle.mm_text.specs.declared.statement.Kind.TheVariants.{Provable}
-use Rattle.mm_text.specs.Statement.{PlainStatement}
-use Rattle.mm_text.specs.Files.{PlainFile, most_bytes}
+use Rattle.mm_base.specs.declared.statement.Kind.TheVariants.{Provable}
+use Rattle.mm_base.specs.Statement.{PlainStatement}
+use Rattle.mm_text.specs.Files.{PlainFile}
+use Rattle.mm_base.specs.MostBytes.{most_bytes}
 use Rattle.mm_frame.specs.Sentence.{Sentence, sentence_of, IsLabelled}
 use Rattle.mm_step.specs.declared.profile.Profile.TheVariants.{Lenient}
 use Rattle.mm_step.specs.declared.profile.Profile.{Profile}

@@ -6,8 +6,8 @@ use crate::expressions::Expressions;
 use crate::goals::{Goal, goals_of};
 use crate::graph::{Edge, Graph, Origin};
 use crate::price::{BYTE, step_price};
+use mm_base::Seed;
 use mm_frame::{Book, Hypothesis, LabelId, Part, Sym};
-use mm_text::Seed;
 use std::alloc::{AllocError, Global};
 use std::test::Fail;
 

@@ -9,8 +9,8 @@ use crate::patterns::Patterns;
 use crate::rests::{Grounds, Rests, is_within};
 use crate::syntax::Syntax;
 use crate::walk::{Conclusion, add_rows};
+use mm_base::Seed;
 use mm_frame::{Hypothesis, LabelId, Part, Piece, Sym};
-use mm_text::Seed;
 use std::alloc::{AllocError, Global};
 use std::test::Fail;
 

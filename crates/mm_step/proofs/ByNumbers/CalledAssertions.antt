@@ -9,7 +9,7 @@ use Rattle.std.proofs.lemmas.Option.{slice_get-map}
 use Rattle.std.proofs.lemmas.List.Elements.{Contains-append_left}
 use Rattle.std.proofs.lemmas.List.Elements.{Contains-push}
 use Rattle.std.proofs.lemmas.List.Elements.{Contains-push_cases}
-use Rattle.mm_text.proofs.Lists.{all_at, zip_left, zip_right}
+use Rattle.mm_base.proofs.Lists.{all_at, zip_left, zip_right}
 use Rattle.mm_frame.specs.Sentence.{Sentence, IsAssertion, IsHypothesis}
 use Rattle.mm_step.specs.Moves.{Move, name}
 use Rattle.std.proofs.lemmas.List.{length-map, get_or-map, map-append}

@@ -22,12 +22,12 @@ use Rattle.std.proofs.lemmas.List.Sorted.{Contains-permutation, IsPermutation-sy
 use Rattle.std.proofs.lemmas.List.Elements.{Contains-push, Contains-push_cases}
 use Rattle.std.proofs.lemmas.List.Elements.{Contains-append_left}
 use Rattle.std.proofs.lemmas.List.Elements.{AllZip-push}
-use Rattle.mm_text.proofs.Lists.{all_at, all_within}
+use Rattle.mm_base.proofs.Lists.{all_at, all_within}
 use Rattle.mm_frame.specs.declared.number.Sym.{Sym}
 use Rattle.mm_frame.specs.Sentence.{Sentence, Declares}
 use Rattle.mm_frame.specs.Active.{IsVariable}
 use Rattle.mm_frame.specs.Pieces.{is_of}
-use Rattle.mm_text.specs.declared.statement.Kind.TheVariants.{Variables}
+use Rattle.mm_base.specs.declared.statement.Kind.TheVariants.{Variables}
 use Rattle.mm_frame.proofs.Rules.ObeyedRules.{some_later}
 use Rattle.mm_step.specs.Tree.{ShareNoVariable, AreDistinct}
 use Rattle.mm_step.specs.Stores.{numbers_in}

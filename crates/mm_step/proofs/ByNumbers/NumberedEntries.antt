@@ -5,7 +5,7 @@ use Rattle.std.proofs.Common.{sym, subst, ◌∙◌, get_or}
 use Rattle.std.specs.List.{AllZip}
 use Rattle.std.proofs.lemmas.Option.{same_Some, slice_get-get_or}
 use Rattle.std.proofs.lemmas.Option.{slice_get_within}
-use Rattle.mm_text.proofs.Lists.{zip_left}
+use Rattle.mm_base.proofs.Lists.{zip_left}
 use Rattle.mm_frame.specs.Sentence.{Sentence}
 use Rattle.mm_step.specs.Mirror.CodeSteps.{MayBeUsed}
 use Rattle.mm_step.specs.declared.call.Call.{Call}

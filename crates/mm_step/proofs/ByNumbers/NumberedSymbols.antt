@@ -19,14 +19,14 @@ use Rattle.mm_frame.specs.declared.number.Sym.{Sym}
 use Rattle.mm_step.specs.Stores.{numbers_in, said_by, all_said_by, IsWithinIndices}
 use Rattle.mm_frame.specs.declared.piece.Piece.{Piece}
 use Rattle.mm_frame.specs.declared.piece.Piece.TheVariants.{Symbol, Value}
-use Rattle.mm_text.proofs.Lists.{all_at, same_length, mapped_zip, zip_left, zip_right, all_append}
+use Rattle.mm_base.proofs.Lists.{all_at, same_length, mapped_zip, zip_left, zip_right, all_append}
 use Rattle.mm_frame.specs.Pieces.{is_of, IsNowhere, IsFirstAt, IsPieceOf, ArePieces, variables_of}
 use Rattle.mm_frame.specs.Pieces.{AreItsPieces, HavePatterns}
 use Rattle.mm_step.specs.Mirror.CodeVerify.{value_of, replaced_in, name_at, names_at, AreBelow}
 use Rattle.mm_step.specs.Mirror.CodeVerify.{IsRightCode, IsWrongCode, IsEqual, IsVariableOf}
 use Rattle.mm_step.specs.Mirror.CodeVerify.{AreHypothesesOf, AreVariablesOf, all_names_at}
 use Rattle.mm_step.specs.Mirror.CodeVerify.{IsUnequal, Replaces}
-use Rattle.mm_text.specs.declared.statement.Kind.TheVariants.{Floating, Essential}
+use Rattle.mm_base.specs.declared.statement.Kind.TheVariants.{Floating, Essential}
 use Rattle.mm_frame.specs.Sentence.{Sentence, Types}
 use Rattle.mm_frame.specs.Numbers.{symbols_of, labelled_sentences, IsNumberOf, AreNumbers}
 use Rattle.mm_frame.specs.FrameIndex.{IsTypingOf, HaveTypings}
@@ -37,7 +37,7 @@ use Rattle.std.proofs.lemmas.Bool.Decides.{Decides-eqb}
 use Rattle.mm_step.specs.Substitution.{instance_of}
 use Rattle.mm_frame.proofs.Rules.DecidedStatements.{types_dec}
 use Rattle.mm_step.proofs.ProofSteps.Replacements.{replaced_by, first_of}
-use Rattle.mm_text.proofs.Inclusions.OpenFiles.{none_there}
+use Rattle.mm_base.proofs.NoneThere.{none_there}
 
 -- ==== what replaces a symbol, by numbers: the entry of the hypothesis that types it
 

@@ -7,8 +7,8 @@ use Rattle.mm_frame.proofs.Frames.FrameLaws.{distinct_other}
 use Rattle.mm_step.specs.Tree.{ShareNoVariable, AreDistinct}
 use Rattle.std.proofs.lemmas.Bool.{false≢true, cases_lt}
 use Rattle.std.proofs.lemmas.List.{length-map, get_or-map, get_or_default}
-use Rattle.mm_text.proofs.Lists.{all_weaker}
-use Rattle.mm_text.specs.declared.statement.Kind.TheVariants.{Constants, Variables}
+use Rattle.mm_base.proofs.Lists.{all_weaker}
+use Rattle.mm_base.specs.declared.statement.Kind.TheVariants.{Constants, Variables}
 use Rattle.mm_frame.specs.declared.distinct.DistinctPair.{DistinctPair}
 use Rattle.mm_frame.specs.declared.number.Sym.{Sym}
 use Rattle.mm_frame.specs.Active.{IsVariable}

@@ -38,8 +38,8 @@ use Rattle.mm_step.specs.Plain.{label_ids}
 use Rattle.mm_step.specs.Mirror.CodeSteps.{MayBeUsed}
 use Rattle.mm_step.specs.Mirror.CodeRun.{CarriesOn, StopsAt}
 use Rattle.mm_step.specs.Mirror.CodeApply.{IsAppliedAssertion, IsMatched, IsReady, IsEarlierScheme}
-use Rattle.mm_text.proofs.Lists.{get_take, get_from_take, all_weaker, all_append, all_prefix}
-use Rattle.mm_text.proofs.Lists.{all_back, all_push, zip_length}
+use Rattle.mm_base.proofs.Lists.{get_take, get_from_take, all_weaker, all_append, all_prefix}
+use Rattle.mm_base.proofs.Lists.{all_back, all_push, zip_length}
 use Rattle.mm_step.proofs.ProofSteps.OneStep.{StepTo, not_both_kinds}
 use Rattle.mm_step.proofs.ProofSteps.Replacements.{replaced_by, meets_of}
 use Rattle.mm_step.proofs.ByNumbers.NumberedSymbols.{replaces_by, replaced_named, name_is}

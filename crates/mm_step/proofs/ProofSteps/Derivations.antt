@@ -4,13 +4,13 @@ use Rattle.std.proofs.Common.{◌≡◌, ℕ, List, [], ◌∷◌, ◌++◌, ref
 use Rattle.std.proofs.Common.{map, slice_get, Option, Some, None, IsSome, inl, inr, ⊎_elim}
 use Rattle.std.proofs.Common.{append_assoc, append-nil, suc, ◌+◌, length, arith}
 use Rattle.std.specs.List.{AllZip}
-use Rattle.mm_text.proofs.Lists.{cons_parts}
+use Rattle.mm_base.proofs.Lists.{cons_parts}
 use Rattle.mm_frame.specs.Sentence.{Sentence, Types}
 use Rattle.mm_step.specs.Tree.{Trees, none, tree, beside, DeriveAll, spelling, Names, KeepsApart}
 use Rattle.mm_step.specs.Tree.{roots, MayStandOver, TreesFit}
 use Rattle.std.proofs.lemmas.Option.{same_Some, slice_get-map}
 use Rattle.std.proofs.lemmas.List.{length-map, map-append}
-use Rattle.mm_text.specs.declared.statement.Kind.TheVariants.{Floating}
+use Rattle.mm_base.specs.declared.statement.Kind.TheVariants.{Floating}
 use Rattle.mm_frame.specs.Frame.{IsMandatory, IsMandatoryAt}
 use Rattle.mm_frame.specs.Rules.{AllMeant}
 use Rattle.mm_frame.proofs.Rules.ObeyedRules.{allmeant_prefix}

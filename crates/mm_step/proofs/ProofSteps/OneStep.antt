@@ -4,7 +4,7 @@ use Rattle.std.proofs.Common.{◌≡◌, ℕ, List, take, slice_get, Contains, S
 use Rattle.std.proofs.Common.{ap, subst, ◌∙◌, arith, ◌+◌, ◌<◌, length, drop}
 use Rattle.std.proofs.Common.{Option, None, ◌⊎◌}
 use Rattle.std.proofs.lemmas.Option.{same_Some}
-use Rattle.mm_text.specs.declared.statement.Kind.TheVariants.{Constants, Floating, Essential}
+use Rattle.mm_base.specs.declared.statement.Kind.TheVariants.{Constants, Floating, Essential}
 use Rattle.mm_frame.specs.declared.rule.MeaningRule.TheVariants.{M10}
 use Rattle.mm_frame.specs.Sentence.{Sentence, Declares, IsLabelled, Types, IsHypothesis}
 use Rattle.mm_frame.specs.Sentence.{IsAssertion}
@@ -16,7 +16,7 @@ use Rattle.mm_frame.proofs.Rules.ObeyedRules.{mandatory_typed}
 use Rattle.mm_frame.specs.Frame.{IsMandatory, IsMandatoryAt, AreMandatory}
 use Rattle.mm_frame.specs.Frame.{IsMandatoryPair}
 use Rattle.std.proofs.lemmas.List.{length-append}
-use Rattle.mm_text.specs.declared.statement.Kind.{Kind}
+use Rattle.mm_base.specs.declared.statement.Kind.{Kind}
 use Rattle.mm_frame.proofs.Frames.FrameLaws.{those_unique, those_have}
 pub use Rattle.mm_frame.proofs.Frames.FrameLaws.{those_hold}
 use Rattle.mm_step.specs.declared.fault.ProofRule.{ProofRule}
@@ -24,7 +24,7 @@ use Rattle.mm_step.specs.declared.fault.ProofRule.TheVariants.{P8, P9, P10, P11,
 use Rattle.mm_step.specs.Substitution.{IsOn, instance_of}
 use Rattle.mm_step.specs.Tree.{Names, KeepsApart}
 use Rattle.mm_step.specs.Proof.{MeetsHypotheses, BreaksStep}
-use Rattle.mm_text.proofs.Lists.{get_beside, one_parting}
+use Rattle.mm_base.proofs.Lists.{get_beside, one_parting}
 
 -- ==== what statements that break no rule of meaning have: one place for each label, and type codes
 -- that are no variables

@@ -17,7 +17,7 @@ use Rattle.mm_frame.proofs.Rules.ObeyedRules.{meant_at, allmeant_prefix, active_
 use Rattle.mm_frame.proofs.Rules.ObeyedRules.{mandatory_typed}
 use Rattle.mm_step.specs.Tree.{Names}
 use Rattle.mm_step.specs.Proof.{MeetsHypotheses}
-use Rattle.mm_text.proofs.Lists.{get_take, get_beside}
+use Rattle.mm_base.proofs.Lists.{get_take, get_beside}
 use Rattle.mm_frame.proofs.Frames.FrameLaws.{those_hold}
 use Rattle.mm_step.proofs.ProofSteps.OneStep.{typing_among}
 use Rattle.mm_step.proofs.ProofSteps.Derivations.{typing_of, same_typing}

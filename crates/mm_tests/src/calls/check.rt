@@ -3,12 +3,13 @@
 use crate::calls::failing::failing_writer;
 use crate::tests::{CHECK, reply_to};
 use mm_axioms::{Report, axioms};
+use mm_base::{File, Seed};
 use mm_check::{Command, Question, RunFault, run};
 use mm_frame::MeaningRule;
 use mm_render::proof_listing;
 use mm_rules::{AskFault, AskRule, CheckFault, Refusal, Rule, Status};
 use mm_step::{Profile, ProofRule};
-use mm_text::{File, LoadRule, Seed};
+use mm_text::LoadRule;
 use mm_verdict::{AllFaults, Checked, all_faults, check};
 use std::alloc::Global;
 use std::test::Fail;

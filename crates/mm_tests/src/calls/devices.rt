@@ -3,8 +3,8 @@
 use crate::calls::failing::failing_writer;
 use crate::databases::DEMO;
 use crate::tests::{asks_handed, reply_to};
+use mm_base::{File, Seed};
 use mm_check::{Command, Question, RunFault, run};
-use mm_text::{File, Seed};
 use mm_verdict::Form;
 use std::alloc::Global;
 use std::test::Fail;

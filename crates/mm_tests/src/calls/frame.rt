@@ -12,8 +12,8 @@ mod schemes;
 mod taking;
 
 use crate::calls::frame::taking::{book_of, empty_book};
+use mm_base::File;
 use mm_frame::{Book, Found, MeaningRule, RuleFault, Sym, one_frame, one_number, open_count};
-use mm_text::File;
 use std::alloc::{AllocError, Global};
 use std::test::Fail;
 

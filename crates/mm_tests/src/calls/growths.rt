@@ -10,6 +10,7 @@ use crate::calls::load::{HOLLOW, failing_reader};
 use crate::databases::{DEMO, DEMO_COMPRESSED, DEMO_SMALL};
 use crate::tests::{CHECK, asks_handed};
 use mm_axioms::{all_users, axioms, direct_users};
+use mm_base::{File, Seed, Statement};
 use mm_check::{Command, Question, RunFault, WholeQuestion, run};
 use mm_code::write_codes;
 use mm_render::{
@@ -19,10 +20,7 @@ use mm_render::{
 use mm_rules::{AskFault, CheckFault, Status};
 use mm_save::{saved, saved_all};
 use mm_step::Profile;
-use mm_text::{
-    Counted, File, HollowBytes, LoadFault, Seed, Statement, Statements, TextFault, read_all,
-    read_hollow,
-};
+use mm_text::{Counted, HollowBytes, LoadFault, Statements, TextFault, read_all, read_hollow};
 use mm_verdict::{Checked, Form, check};
 use std::alloc::Global;
 use std::test::Fail;

@@ -1,6 +1,7 @@
 //! Which of the handed files nothing includes.
 
-use mm_text::{File, Seed, alike_files_leave_out_the_same, left_out};
+use mm_base::{File, Seed};
+use mm_text::{alike_files_leave_out_the_same, left_out};
 use std::alloc::Global;
 use std::test::Fail;
 

@@ -1,10 +1,10 @@
 //! The label that is nearest to another, and a reply before it is written.
 
 use crate::tests::CHECK;
+use mm_base::{File, Seed};
 use mm_check::reply_to;
 use mm_explain::nearest_label;
 use mm_rules::Status;
-use mm_text::{File, Seed};
 use mm_verdict::Unwatched;
 use std::test::Fail;
 

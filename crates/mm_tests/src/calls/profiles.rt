@@ -1,12 +1,12 @@
 //! `check` under both profiles, and questions of what either has accepted.
 
 use crate::databases::{DEMO, DEMO_COMPRESSED, HEAD};
+use mm_base::{File, Seed};
 use mm_laws::{between_profiles, saved_proof_is_strict};
 use mm_render::is_same_proof;
 use mm_rules::{AskFault, AskRule, CheckFault, Rule};
 use mm_save::saved;
 use mm_step::{Profile, ProofRule};
-use mm_text::{File, Seed};
 use mm_verdict::{Checked, Form, check, check_with};
 use std::alloc::Global;
 use std::process::Abort;

@@ -15,9 +15,9 @@ mod wholes;
 
 ghost use Rattle.std.specs.Prelude.{◌≡◌, ◌≤◌, ◌++◌, ◌∷◌, [], ℕ, map, length, IfOk, IfSome, OnOk};
 ghost use Rattle.std.specs.List.{sum_by};
-ghost use Rattle.mm_text.specs.Statement.{plain_statement, HasForm, bytes_in};
-ghost use Rattle.mm_text.specs.declared.statement.Kind.TheVariants.{Provable};
-ghost use Rattle.mm_text.specs.Files.{most_bytes};
+ghost use Rattle.mm_base.specs.Statement.{plain_statement, HasForm, bytes_in};
+ghost use Rattle.mm_base.specs.declared.statement.Kind.TheVariants.{Provable};
+ghost use Rattle.mm_base.specs.MostBytes.{most_bytes};
 ghost use Rattle.mm_frame.specs.declared.answer.Taken.TheVariants.{Assertion};
 ghost use Rattle.mm_frame.specs.Sentence.{Sentence, sentence_in};
 ghost use Rattle.mm_frame.specs.Taken.{TakenAs};
@@ -25,6 +25,7 @@ ghost use Rattle.mm_step.specs.Steps.{IsProofNumber};
 ghost use Rattle.mm_code.specs.Layout.{texts};
 
 use crate::databases::{HEAD, LIMIT};
+use mm_base::{File, Kind, Seed, Statement, Token};
 use mm_frame::{Book, Found, LabelId, Piece, ShortPiece, Sym, Taken};
 use mm_listing::{Line, Name, UsedSteps, listing, uses_of};
 use mm_proof::{Parsed, Steps, verify};
@@ -34,7 +35,7 @@ use mm_proof_laws::{
     told_by_packed,
 };
 use mm_step::{Flat, Profile, ProofFault, ProofRule, Rows, Store, Used};
-use mm_text::{File, Kind, Seed, Statement, Statements, Token};
+use mm_text::Statements;
 use std::alloc::{AllocError, Global};
 use std::process::Abort;
 use std::test::Fail;

@@ -4,6 +4,7 @@ ghost use Rattle.std.specs.Prelude.{◌≡◌, ◌≤◌, length};
 
 use crate::databases::FIRST;
 use crate::tests::reply_to;
+use mm_base::{File, Seed};
 use mm_check::{Command, Question};
 use mm_laws::{
     all_saved_proofs_are_strict, one_all_saved, one_saved, packed_texts_tell,
@@ -12,7 +13,6 @@ use mm_laws::{
 };
 use mm_rules::Status;
 use mm_save::{saved, saved_all};
-use mm_text::{File, Seed};
 use mm_verdict::Form;
 use std::alloc::{AllocError, Global};
 use std::test::Fail;

@@ -1,12 +1,12 @@
 //! Shorter proofs of a theorem, whatever a search gives.
 
+use mm_base::{File, Seed};
 use mm_check::{Command, WholeQuestion, reply_to};
 use mm_frame::{Book, LabelId};
 use mm_minimize::{OwnSize, Search, minimized};
 use mm_proof::Steps;
 use mm_rules::{AskFault, AskRule};
 use mm_step::Profile;
-use mm_text::{File, Seed};
 use mm_verdict::{Checked, SoFar, Watch, check};
 use std::alloc::{AllocError, Global};
 use std::test::Fail;

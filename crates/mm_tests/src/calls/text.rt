@@ -1,9 +1,9 @@
 //! The reader over small files.
 
+use mm_base::{File, Kind, Seed, Statement, Token};
 use mm_text::{
-    File, Kind, LoadFault, LoadRule, Seed, Statement, Statements, TextFault, TextRule, Token,
-    WriteFault, alike_files_are_read_alike, one_reading, proof_spans_follow, proofs_stand_in_spans,
-    replaced_proofs_are_read,
+    LoadFault, LoadRule, Statements, TextFault, TextRule, WriteFault, alike_files_are_read_alike,
+    one_reading, proof_spans_follow, proofs_stand_in_spans, replaced_proofs_are_read,
 };
 use std::alloc::Global;
 use std::test::Fail;

@@ -9,18 +9,19 @@ use Rattle.std.proofs.lemmas.Slice.Zip.{AllZip-long}
 use Rattle.std.proofs.lemmas.Option.{slice_get_cases, slice_get_past}
 use Rattle.mm_text.specs.declared.fault.TextRule.{TextRule}
 use Rattle.mm_text.specs.declared.fault.TextRule.TheVariants.{X5, X7}
-use Rattle.mm_text.specs.Token.{PlainToken, tokens_from}
+use Rattle.mm_base.specs.Token.{PlainToken, tokens_from}
 use Rattle.mm_text.specs.Files.{PlainFile}
 use Rattle.mm_text.specs.Items.{Item, Plain, Wrong, Inclusion, Shown, Clear, Broken}
-use Rattle.mm_text.specs.Items.{without_comments, spells, holds_dollar, Spot, Outside, Naming}
+use Rattle.mm_text.specs.Items.{without_comments, holds_dollar, Spot, Outside, Naming}
+use Rattle.mm_base.specs.Spelling.{spells}
 use Rattle.mm_text.specs.Items.{Closing, Piece, Met, Named, broken_outside, pieces, pieces_of}
 use Rattle.mm_text.specs.Items.{file_number, with_inclusions, put_before, put_in, items}
 use Rattle.mm_text.specs.LineNumbers.{feeds_before, feeds_in}
 use Rattle.mm_text.specs.Alike.{token_on, faulty_on, shown_on, item_on, shows, AreAlike}
 use Rattle.mm_text.specs.Alike.{AlikeFilesAreReadAlike}
 use Rattle.mm_text.proofs.Inclusions.ItemTokens.{StandsIn, tokens_in_place, ShownIs, shown_all}
-use Rattle.mm_text.proofs.Lists.{all_weaker, both_choices, mapped_zip, zip_append, zip_left}
-use Rattle.mm_text.proofs.Lists.{zip_length, zip_weaker}
+use Rattle.mm_base.proofs.Lists.{all_weaker, both_choices, mapped_zip, zip_append, zip_left}
+use Rattle.mm_base.proofs.Lists.{zip_length, zip_weaker}
 use Rattle.mm_text.proofs.Inclusions.FilePieces.{is_wrong, named_related, spliced_met, spliced_name}
 use Rattle.mm_text.proofs.Inclusions.FilePieces.{spliced_nil}
 use Rattle.mm_text.proofs.Alike.AlikeReadings.{text_alike, faulty_alike, reading_on, same_read}

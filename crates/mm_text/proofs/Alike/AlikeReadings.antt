@@ -6,15 +6,17 @@ use Rattle.std.specs.List.{AllZip}
 use Rattle.mm_text.specs.declared.scope.OpenBlock.{OpenBlock}
 use Rattle.mm_text.specs.declared.fault.TextRule.{TextRule}
 use Rattle.mm_text.specs.declared.fault.TextRule.TheVariants.{S6}
-use Rattle.mm_text.specs.declared.statement.Kind.{Kind}
-use Rattle.mm_text.specs.declared.statement.Kind.TheVariants.{Opening, Closing}
-use Rattle.mm_text.specs.Token.{PlainToken, is_label}
-use Rattle.mm_text.specs.Statement.{PlainStatement, is_provable}
-use Rattle.mm_text.specs.Items.{Item, Plain, Wrong, Inclusion, End, spells, plain_tokens}
+use Rattle.mm_base.specs.declared.statement.Kind.{Kind}
+use Rattle.mm_base.specs.declared.statement.Kind.TheVariants.{Opening, Closing}
+use Rattle.mm_base.specs.Token.{PlainToken, is_label}
+use Rattle.mm_base.specs.Statement.{PlainStatement, is_provable}
+use Rattle.mm_text.specs.Items.{Item, Plain, Wrong, Inclusion, End, plain_tokens}
+use Rattle.mm_base.specs.Spelling.{spells}
 use Rattle.mm_text.specs.Reading.{PlainFault}
 use Rattle.mm_text.specs.Alike.{token_on, faulty_on, item_on, statement_on, fault_on}
 use Rattle.mm_text.specs.Mirror.Reader.{Part, Between, Labelled, InBody, InProof, Step, More, Whole}
-use Rattle.mm_text.specs.Mirror.Reader.{Opened, Closed, Faulty, step, is_keyword, bare_statement}
+use Rattle.mm_text.specs.Mirror.Reader.{Opened, Closed, Faulty, step, is_keyword}
+use Rattle.mm_base.specs.Begun.{bare_statement}
 use Rattle.mm_text.specs.Mirror.Reader.{has_count, is_full, PlainScope, PlainReading, reading_of}
 use Rattle.mm_text.specs.Mirror.Reader.{fault_in, end_fault, inclusion_fault, block_fault, unless}
 use Rattle.mm_text.specs.Mirror.Reader.{unfinished_fault, has_none, only_ending, with_statement}
@@ -22,7 +24,7 @@ use Rattle.mm_text.specs.Mirror.Reader.{scope_after_statement, scope_after_openi
 use Rattle.mm_text.specs.Mirror.Reader.{scope_after_closing}
 use Rattle.mm_text.proofs.Reader.OneToken.{read_more, read_whole, read_opened, read_closing}
 use Rattle.mm_text.proofs.Reader.OneToken.{read_faulty}
-use Rattle.mm_text.proofs.Lists.{both_choices, choice_mapped, same_length}
+use Rattle.mm_base.proofs.Lists.{both_choices, choice_mapped, same_length}
 
 -- ---- tokens
 

@@ -11,8 +11,9 @@ use Rattle.std.proofs.lemmas.Bool.{cases_Bool, cond_both, both_ways, and_parts, 
 use Rattle.std.proofs.lemmas.List.Sums.{sum_by-cons}
 use Rattle.std.proofs.lemmas.List.{take_more}
 use Rattle.std.proofs.lemmas.List.Folds.{list_all-append}
-use Rattle.mm_text.specs.Token.{PlainToken, is_space, is_printable, tokens_from}
-use Rattle.mm_text.specs.Items.{Shown, Clear, without_comments, spells, holds_mark}
+use Rattle.mm_base.specs.Token.{PlainToken, is_space, is_printable, tokens_from}
+use Rattle.mm_text.specs.Items.{Shown, Clear, without_comments, holds_mark}
+use Rattle.mm_base.specs.Spelling.{spells}
 use Rattle.mm_text.specs.LineNumbers.{feeds_before}
 use Rattle.mm_text.specs.Alike.{token_on, shown_on, shows}
 use Rattle.mm_text.specs.Mirror.Position.{is_quiet}
@@ -20,8 +21,9 @@ use Rattle.mm_text.specs.Mirror.Hollow.{ShowSame, IsBoundary, IsOpen, ink, feeds
 use Rattle.mm_text.specs.Mirror.Hollow.{held, is_spoken, last_before}
 use Rattle.mm_text.specs.declared.hollow.State.TheVariants.{Inside, Marked}
 use Rattle.mm_text.specs.declared.hollow.State.{State}
-use Rattle.mm_text.proofs.Lists.{both_choices, choice_mapped}
-use Rattle.mm_text.proofs.Tokens.WordsAndComments.{run, ahead, by_position, tokens_ahead, quiet_ink}
+use Rattle.mm_base.proofs.Lists.{both_choices, choice_mapped}
+use Rattle.mm_base.proofs.TokensFrom.{run}
+use Rattle.mm_text.proofs.Tokens.WordsAndComments.{ahead, by_position, tokens_ahead, quiet_ink}
 use Rattle.mm_text.proofs.Tokens.WordsAndComments.{outside-begin, in_comment-mark, in_comment-more}
 use Rattle.mm_text.proofs.Tokens.ManyBytes.{shown_legal}
 

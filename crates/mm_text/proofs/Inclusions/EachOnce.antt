@@ -8,14 +8,15 @@ use Rattle.std.proofs.Common.{slice_index_or, slice_set, slice_get, sum_by, ne_e
 use Rattle.std.proofs.lemmas.List.Sums.{sum_by_from}
 use Rattle.std.proofs.lemmas.Bool.{and_parts, cond_both}
 use Rattle.mm_text.specs.declared.fault.TextRule.{TextRule}
-use Rattle.mm_text.specs.Token.{PlainToken, tokens_from}
+use Rattle.mm_base.specs.Token.{PlainToken, tokens_from}
 use Rattle.mm_text.specs.Files.{PlainFile, total_bytes}
 use Rattle.mm_text.specs.Items.{Item, Wrong, Piece, Met, Named, pieces_of, put_before, put_in}
 use Rattle.mm_text.specs.Items.{items, Plain, Inclusion, End, Shown, Clear, Broken}
 use Rattle.mm_text.specs.Items.{without_comments, Spot, Outside, pieces, plain_tokens, file_number}
 use Rattle.mm_text.specs.Items.{with_inclusions}
 use Rattle.mm_text.specs.Laws.{InclusionsEnd}
-use Rattle.mm_text.proofs.Tokens.StepByStep.{put_before_by, put_in_by, tokens_by, shown_by}
+use Rattle.mm_text.proofs.Tokens.StepByStep.{put_before_by, put_in_by, shown_by}
+use Rattle.mm_base.proofs.TokensByByte.{tokens_by}
 use Rattle.mm_text.proofs.Tokens.StepByStep.{pieces_by}
 use Rattle.mm_text.proofs.Inclusions.FilePieces.{named_related}
 use Rattle.mm_text.proofs.Inclusions.OpenFiles.{in_range, count_named, count_top}

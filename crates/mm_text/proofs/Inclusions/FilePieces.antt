@@ -12,12 +12,13 @@ use Rattle.mm_text.specs.declared.class.Keyword.{Keyword}
 use Rattle.mm_text.specs.declared.class.Keyword.TheVariants.{Constants}
 use Rattle.mm_text.specs.declared.class.Class.{Class}
 use Rattle.mm_text.specs.declared.comments.Position.{Position}
-use Rattle.mm_text.specs.Token.{PlainToken, tokens_from}
+use Rattle.mm_base.specs.Token.{PlainToken, tokens_from}
 use Rattle.mm_text.specs.Mirror.Class.{keyword_bytes, ClassIs}
 use Rattle.mm_text.specs.Files.{PlainFile}
 use Rattle.mm_text.specs.Items.{Item, Plain, Wrong, Inclusion, End, Shown, Clear, Broken, Piece}
 use Rattle.mm_text.specs.Items.{Met, Named, Spot, Outside, Naming, Closing, pieces, broken_outside}
-use Rattle.mm_text.specs.Items.{holds_dollar, spells, file_number, with_inclusions, put_before}
+use Rattle.mm_text.specs.Items.{holds_dollar, file_number, with_inclusions, put_before}
+use Rattle.mm_base.specs.Spelling.{spells}
 use Rattle.mm_text.specs.Items.{put_in, without_comments, pieces_of, items}
 use Rattle.mm_text.specs.Mirror.Position.{shown_at}
 use Rattle.mm_text.specs.Mirror.Next.{IsOfClass}

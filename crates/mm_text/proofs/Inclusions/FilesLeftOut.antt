@@ -10,17 +10,17 @@ use Rattle.std.proofs.Math.Bool.{or-false, or_assoc, or_comm}
 use Rattle.std.proofs.lemmas.List.{length-replicate}
 use Rattle.std.proofs.lemmas.Option.{slice_get_within}
 use Rattle.std.proofs.lemmas.Slice.Zip.{AllZip-long}
-use Rattle.mm_text.specs.Token.{tokens_from}
+use Rattle.mm_base.specs.Token.{tokens_from}
 use Rattle.mm_text.specs.Files.{PlainFile}
-use Rattle.mm_text.specs.Items.{Item, Plain, Wrong, Inclusion, End, Shown, Clear, Broken, spells}
+use Rattle.mm_text.specs.Items.{Item, Plain, Wrong, Inclusion, End, Shown, Clear, Broken}
+use Rattle.mm_base.specs.Spelling.{spells}
 use Rattle.mm_text.specs.Items.{Outside, Piece, Met, Named, broken_outside, pieces, pieces_of}
 use Rattle.mm_text.specs.Items.{put_in, items}
 use Rattle.mm_text.specs.LineNumbers.{feeds_in}
 use Rattle.mm_text.specs.Alike.{item_on, AreAlike}
 use Rattle.mm_text.specs.Included.{file_of, is_left_out, left_out, AlikeFilesLeaveOutTheSame}
-use Rattle.mm_text.specs.Included.{}
 use Rattle.mm_text.specs.Mirror.Included.{AreOfFiles, met_with, unmet}
-use Rattle.mm_text.proofs.Lists.{all_weaker, zip_mapped}
+use Rattle.mm_base.proofs.Lists.{all_weaker, zip_mapped}
 use Rattle.mm_text.proofs.Inclusions.ItemTokens.{StandsIn, tokens_in_place, ItemOf, all_items_of}
 use Rattle.mm_text.proofs.Inclusions.FilePieces.{is_wrong, put_in-met}
 use Rattle.mm_text.proofs.Alike.AlikeItems.{AtHome, shown_at_home, alike_items}

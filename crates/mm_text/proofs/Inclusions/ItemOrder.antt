@@ -5,7 +5,7 @@ use Rattle.std.proofs.Common.{inr, append_assoc, append-nil, arith, slice_index_
 use Rattle.std.specs.List.{AllByRecursion}
 use Rattle.std.proofs.Math.Decide.{ℕ_discrete}
 use Rattle.std.proofs.lemmas.Bool.{both_ways, false_from_ne_true}
-use Rattle.mm_text.specs.Token.{PlainToken, tokens_from}
+use Rattle.mm_base.specs.Token.{PlainToken, tokens_from}
 use Rattle.mm_text.specs.Files.{PlainFile}
 use Rattle.mm_text.specs.Items.{Shown, Clear, Broken, without_comments, Spot, Outside, Piece, Met}
 use Rattle.mm_text.specs.Items.{Named, pieces, pieces_of, put_before, put_in, plain_tokens, items}

@@ -6,20 +6,22 @@ use Rattle.std.proofs.Common.{codes, Option, Some, None, ◌⊎◌, inl, inr, ar
 use Rattle.std.proofs.Common.{slice_set}
 use Rattle.std.specs.List.{AllByRecursion, list_any, list_all}
 use Rattle.std.proofs.lemmas.Bool.{cond_both}
-use Rattle.mm_text.specs.Token.{PlainToken, tokens_from, HoldsNoDollar, is_printable}
+use Rattle.mm_base.specs.Token.{PlainToken, tokens_from, HoldsNoDollar, is_printable}
 use Rattle.mm_text.specs.declared.fault.TextRule.{TextRule}
 use Rattle.mm_text.specs.declared.fault.TextRule.TheVariants.{X4, X9}
-use Rattle.mm_text.specs.Statement.{IsKeyword, keywords}
+use Rattle.mm_base.specs.Statement.{IsKeyword, keywords}
 use Rattle.mm_text.specs.Files.{PlainFile}
 use Rattle.mm_text.specs.Items.{Item, Plain, Wrong, Inclusion, End, Shown, Clear, Broken}
-use Rattle.mm_text.specs.Items.{without_comments, spells, holds_dollar, holds_mark, Spot, Outside}
+use Rattle.mm_text.specs.Items.{without_comments, holds_dollar, holds_mark, Spot, Outside}
+use Rattle.mm_base.specs.Spelling.{spells}
 use Rattle.mm_text.specs.Items.{Naming, Closing, Piece, Met, Named, broken_outside, pieces}
 use Rattle.mm_text.specs.Items.{pieces_of, file_number, with_inclusions, put_before, put_in}
 use Rattle.mm_text.specs.Items.{plain_tokens, items}
 use Rattle.mm_text.specs.Reading.{IsSliceOf}
-use Rattle.mm_text.proofs.Tokens.StepByStep.{tokens_by, put_before_by}
+use Rattle.mm_base.proofs.TokensByByte.{tokens_by}
+use Rattle.mm_text.proofs.Tokens.StepByStep.{put_before_by}
 use Rattle.mm_text.proofs.Reader.OneToken.{IsSigned, is_keyword-true}
-use Rattle.mm_text.proofs.Lists.{all_append, all_weaker}
+use Rattle.mm_base.proofs.Lists.{all_append, all_weaker}
 use Rattle.mm_text.proofs.Inclusions.FilePieces.{named_related}
 
 -- ==== each token of a file is the slice of its bytes at its position

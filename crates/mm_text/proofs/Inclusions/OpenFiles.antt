@@ -4,7 +4,7 @@ use Rattle.std.proofs.Common.{◌≡◌, ◌≢◌, ℕ, zero, suc, ◌+◌, ◌
 use Rattle.std.proofs.Common.{get_or, take, Bool, ◌||◌, true, false, Some, None, cond, nat_lt, refl}
 use Rattle.std.proofs.Common.{sym, ap, ◌∙◌, arith, ⊎_elim, if◌then◌else◌, not, ◌++◌, ◌-◌, Option}
 use Rattle.std.proofs.Common.{count_by, drop, replicate, append-nil, slice_get, position}
-use Rattle.std.proofs.Common.{slice_index_or, slice_set, get_or-take, length-take-le, is_some}
+use Rattle.std.proofs.Common.{slice_index_or, slice_set, get_or-take, length-take-le}
 use Rattle.std.proofs.Common.{option_map}
 use Rattle.std.specs.List.{list_any, position_or_len}
 use Rattle.std.specs.Cmp.Lexicographic.{bytes_decides}
@@ -16,24 +16,25 @@ use Rattle.std.proofs.lemmas.Option.{slice_get_within, slice_get-map, slice_get-
 use Rattle.std.proofs.lemmas.List.Folds.{list_any_at, Any-from_list_any, sum_by-replicate}
 use Rattle.std.proofs.lemmas.List.Sums.{sum_by-set, sum_by_from}
 use Rattle.std.proofs.lemmas.List.Quantifiers.{position-Some}
-use Rattle.mm_text.specs.declared.file.File.{File}
+use Rattle.mm_base.specs.declared.file.File.{File}
 use Rattle.mm_text.specs.Files.{PlainFile, plain_file, HasTwins, total_bytes}
-use Rattle.mm_text.specs.Items.{spells, Inclusion, End, Piece, Met, Named, Outside, Naming, pieces}
+use Rattle.mm_base.specs.Spelling.{spells}
+use Rattle.mm_text.specs.Items.{Inclusion, End, Piece, Met, Named, Outside, Naming, pieces}
 use Rattle.mm_text.specs.Items.{pieces_of, without_comments, holds_dollar, file_number, put_before}
 use Rattle.mm_text.specs.Items.{put_in}
 use Rattle.mm_text.specs.declared.comments.Position.{Position}
 use Rattle.mm_text.specs.declared.comments.Wrong.{Wrong}
 use Rattle.mm_text.specs.declared.class.Class.{Class}
 use Rattle.mm_text.specs.declared.nest.Nest.{Nest}
-use Rattle.mm_text.specs.declared.token.Token.{Token}
-use Rattle.mm_text.specs.Token.{PlainToken, plain_token, tokens_from}
+use Rattle.mm_base.specs.declared.token.Token.{Token}
+use Rattle.mm_base.specs.Token.{PlainToken, plain_token, tokens_from}
 use Rattle.mm_text.specs.Mirror.Names.{number_among}
 use Rattle.mm_text.specs.Mirror.Position.{IsSameFile, TakesWordAt, shown_at}
 use Rattle.mm_text.specs.Mirror.Next.{items_with, TakesWord}
 use Rattle.mm_text.specs.Mirror.Nest.{IsNest, pieces_with, wrong_item, waiting, spot_of, put_into}
 use Rattle.mm_text.specs.Mirror.Nest.{pieces_left, items_after, items_left}
 use Rattle.mm_text.specs.declared.fault.TextRule.TheVariants.{X7}
-use Rattle.mm_text.proofs.Lists.{get_within}
+use Rattle.mm_base.proofs.Lists.{get_within}
 use Rattle.mm_text.proofs.Tokens.WordsAndComments.{no_dollar-spells}
 use Rattle.mm_text.proofs.Inclusions.FilePieces.{pieces-class, put_in-plain, put_in-wrong}
 use Rattle.mm_text.proofs.Inclusions.FilePieces.{put_in-inclusion, put_in-end, put_in-nil}
@@ -41,6 +42,7 @@ use Rattle.mm_text.proofs.Inclusions.FilePieces.{put_in-unknown, put_in-again, p
 use Rattle.mm_text.proofs.Inclusions.FilePieces.{waiting-push}
 use Rattle.mm_text.specs.declared.class.Class.TheVariants as class
 use Rattle.mm_text.specs.Items as items
+use Rattle.mm_base.proofs.NoneThere.{none_there}
 
 -- ==== the names of files: different up to an index, two of them equal, and where one stands
 
@@ -190,10 +192,6 @@ takes_word n q (Some token) over naming same taken =
     }
 takes_word n q None over naming same taken =
     ap (λ (p : Position). items_left (record n { position = p })) taken
-
-pub none_there : {X : Type 0} (o : Option X) → is_some o ≡ false → o ≡ None
-none_there None e = refl
-none_there (Some x) e = absurd cc
 
 pub takes_inclusion : (n : Nest) (q : Position) (begin : Token) → n.is_over ≡ false → n.naming ≡ None → IsSameFile n.position q
     → pieces n.position.file Outside (shown_at n.position) ≡ Met (Inclusion (plain_token begin)) ∷ pieces n.position.file (Naming (plain_token begin)) (shown_at q)

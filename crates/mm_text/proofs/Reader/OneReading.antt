@@ -10,19 +10,20 @@ use Rattle.std.proofs.lemmas.Bool.{cases_Bool, cond-true, cond-false, eqb-false,
 use Rattle.std.proofs.lemmas.Bool.{false_from_ne_true, false≢true}
 use Rattle.std.proofs.lemmas.Option.{same_Some}
 use Rattle.mm_text.specs.declared.fault.TextRule.{TextRule}
-use Rattle.mm_text.specs.Token.{PlainToken, HoldsNoDollar}
+use Rattle.mm_base.specs.Token.{PlainToken, HoldsNoDollar}
 use Rattle.mm_text.specs.Items.{Item, Plain, Wrong, plain_tokens, HoldNoFault, Inclusion, End}
 use Rattle.mm_text.specs.declared.scope.OpenBlock.{OpenBlock}
 use Rattle.mm_text.specs.declared.fault.TextRule.TheVariants.{X6, X8, S6, S7, S1, S2, S3, S4, S5}
 use Rattle.mm_text.specs.declared.fault.TextRule.TheVariants.{X1}
-use Rattle.mm_text.specs.declared.statement.Kind.TheVariants.{Opening, Closing, Floating}
-use Rattle.mm_text.specs.Statement.{PlainStatement, Spells, SpellsAll, IsKeyword, FitsCount}
-use Rattle.mm_text.specs.Blocks.{AreBalanced, AreClosed, IsInnermost}
+use Rattle.mm_base.specs.declared.statement.Kind.TheVariants.{Opening, Closing, Floating}
+use Rattle.mm_base.specs.Statement.{PlainStatement, Spells, SpellsAll, IsKeyword, FitsCount}
+use Rattle.mm_base.specs.Blocks.{AreBalanced, AreClosed, IsInnermost}
 use Rattle.mm_text.specs.Reading.{PlainFault, IsBeginning, AreOutside, Viable, fault_at, EndsAt}
 use Rattle.mm_text.specs.Reading.{ReadsAs, closes_symbols, IsBody, IsInProof, Meets, MeetsS1}
 use Rattle.mm_text.specs.Reading.{MeetsS2, MeetsS3, MeetsS6, EndsInX8, EndsInS7}
 use Rattle.mm_text.specs.Mirror.Reader.{Part, Between, Step, More, Whole, Opened, Closed, Faulty}
-use Rattle.mm_text.specs.Mirror.Reader.{step, bare_statement, part_first, PlainScope, outermost}
+use Rattle.mm_text.specs.Mirror.Reader.{step, part_first, PlainScope, outermost}
+use Rattle.mm_base.specs.Begun.{bare_statement}
 use Rattle.mm_text.specs.Mirror.Reader.{scope_after_statement, scope_after_opening}
 use Rattle.mm_text.specs.Mirror.Reader.{scope_after_closing, has_none, fault_in, block_fault}
 use Rattle.mm_text.specs.Mirror.Reader.{unfinished_fault, end_fault, inclusion_fault, unless}
@@ -46,8 +47,8 @@ use Rattle.mm_text.proofs.Reader.OpenBlocks.{scope_closed, scope_unclosed, balan
 use Rattle.mm_text.proofs.Reader.OpenBlocks.{body_count, closing_count, opening_count, closed_scope}
 use Rattle.mm_text.proofs.Reader.OpenBlocks.{unclosed_scope, one_innermost, innermost_unclosed}
 use Rattle.mm_text.proofs.Reader.OpenBlocks.{balanced_prefix, closing_unbalanced}
-use Rattle.mm_text.proofs.Lists.{last_cut, nil_append}
-use Rattle.mm_text.specs.declared.statement.Kind.{Kind}
+use Rattle.mm_base.proofs.Lists.{last_cut, nil_append}
+use Rattle.mm_base.specs.declared.statement.Kind.{Kind}
 use Rattle.mm_text.specs.Laws.{FaultsEndLongestPrefixes}
 
 -- ==== prefixes of lists of items, and the tokens in them

@@ -10,11 +10,13 @@ use Rattle.std.proofs.lemmas.Bool.{or_parts, and_parts, false≢true, both_ways,
 use Rattle.std.proofs.lemmas.Bool.{cond_both, cond-true, cond-false}
 use Rattle.std.proofs.lemmas.List.{get_or_default, map_push}
 use Rattle.std.proofs.lemmas.List.Folds.{Any-from_list_any, list_any_at}
-use Rattle.mm_text.specs.Items.{spells, Item, Plain, Wrong, Inclusion, End}
-use Rattle.mm_text.specs.Token.{PlainToken, IsLabel, is_label_byte, HoldsNoDollar, is_label}
-use Rattle.mm_text.specs.Token.{plain_token}
-use Rattle.mm_text.specs.Statement.{keywords, IsKeyword, PlainStatement, HasBody, is_provable}
-use Rattle.mm_text.specs.Mirror.Reader.{is_keyword, bare_statement, Part, Between, Labelled, InBody}
+use Rattle.mm_base.specs.Spelling.{spells}
+use Rattle.mm_text.specs.Items.{Item, Plain, Wrong, Inclusion, End}
+use Rattle.mm_base.specs.Token.{PlainToken, IsLabel, is_label_byte, HoldsNoDollar, is_label}
+use Rattle.mm_base.specs.Token.{plain_token}
+use Rattle.mm_base.specs.Statement.{keywords, IsKeyword, PlainStatement, HasBody, is_provable}
+use Rattle.mm_text.specs.Mirror.Reader.{is_keyword, Part, Between, Labelled, InBody}
+use Rattle.mm_base.specs.Begun.{bare_statement}
 use Rattle.mm_text.specs.Mirror.Reader.{InProof, Step, More, Whole, Opened, Closed, Faulty}
 use Rattle.mm_text.specs.Mirror.Reader.{has_count, is_full, step, PlainScope, scope_after_statement}
 use Rattle.mm_text.specs.Mirror.Reader.{scope_after_opening, scope_after_closing, has_none}
@@ -23,21 +25,22 @@ use Rattle.mm_text.specs.Mirror.Reader.{unless, PlainReading, only_ending, with_
 use Rattle.mm_text.specs.Mirror.Reader.{reading_of, part_label, part_first}
 use Rattle.mm_text.specs.declared.fault.TextRule.{TextRule}
 use Rattle.mm_text.specs.declared.fault.TextRule.TheVariants.{S1, S2, S3, S4, S5, S6, X6, X8}
-use Rattle.mm_text.specs.declared.statement.Kind.{Kind}
-use Rattle.mm_text.specs.declared.statement.Kind.TheVariants.{Opening, Closing}
+use Rattle.mm_base.specs.declared.statement.Kind.{Kind}
+use Rattle.mm_base.specs.declared.statement.Kind.TheVariants.{Opening, Closing}
 use Rattle.mm_text.specs.declared.class.Keyword.{Keyword}
 use Rattle.mm_text.specs.Mirror.Class.{keyword_bytes}
 use Rattle.mm_text.specs.Mirror.Steps.{is_block_sign, bare_kind, labelled_kind, ends_symbols}
 use Rattle.mm_text.specs.Mirror.Steps.{fault_of, AnswersFault, GivesPart, GivesFirst, TellsFault}
 use Rattle.mm_text.specs.Mirror.Steps.{Opens, Closes, StepsTo, ReadsOn}
 use Rattle.mm_text.specs.Reading.{PlainFault, TellsMore}
-use Rattle.mm_text.specs.declared.token.Token.{Token}
+use Rattle.mm_base.specs.declared.token.Token.{Token}
 use Rattle.mm_text.specs.declared.fault.TextFault.{TextFault}
 use Rattle.mm_text.specs.declared.fault.TextFault.TheVariants.{Load, Fault, Memory}
-use Rattle.mm_text.specs.declared.file.File.{File}
+use Rattle.mm_base.specs.declared.file.File.{File}
 use Rattle.mm_text.specs.declared.fault.LoadRule.{LoadRule}
 use Rattle.mm_text.specs.declared.fault.LoadRule.TheVariants.{F1, F2, F3}
-use Rattle.mm_text.specs.Files.{most_bytes, PlainFile, plain_file, total_bytes, HasTwins}
+use Rattle.mm_base.specs.MostBytes.{most_bytes}
+use Rattle.mm_text.specs.Files.{PlainFile, plain_file, total_bytes, HasTwins}
 use Rattle.mm_text.specs.Files.{BreaksLoad}
 use Rattle.mm_text.specs.declared.class.Keyword.TheVariants as keyword
 
@@ -93,11 +96,6 @@ no_dollar-begins (b ∷ bytes) h = (or_parts (b == 36) (list_any (λ x. x == 36)
 pub label_held : (text : List ℕ) → IsLabel text → 1 ≤ length text
 label_held [] h = absurd (false≢true h)
 label_held (b ∷ bytes) h = omega arith
-
--- and no other bytes than a label may hold
-pub label_bytes : (text : List ℕ) → IsLabel text → list_all is_label_byte text ≡ true
-label_bytes [] h = refl
-label_bytes (b ∷ bytes) h = h
 
 label-begins : (text : List ℕ) → IsLabel text → begins_dollar text ≡ false
 label-begins [] h = refl

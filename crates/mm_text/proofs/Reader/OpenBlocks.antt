@@ -7,14 +7,14 @@ use Rattle.std.proofs.Math.Seq.{take-append-add, take-length, take-nil}
 use Rattle.std.proofs.lemmas.List.Sums.{sum_by-append}
 use Rattle.std.proofs.lemmas.Bool.{cases_lt, false≢true, false_from_ne_true, true_from_ne_false}
 use Rattle.mm_text.specs.declared.scope.OpenBlock.{OpenBlock}
-use Rattle.mm_text.specs.declared.statement.Kind.{Kind}
-use Rattle.mm_text.specs.declared.statement.Kind.TheVariants.{Opening, Closing}
-use Rattle.mm_text.specs.Statement.{PlainStatement, HasBody}
-use Rattle.mm_text.specs.Blocks.{is_opening, is_closing, openings, closings, AreBalanced, AreClosed}
-use Rattle.mm_text.specs.Blocks.{IsInnermost}
+use Rattle.mm_base.specs.declared.statement.Kind.{Kind}
+use Rattle.mm_base.specs.declared.statement.Kind.TheVariants.{Opening, Closing}
+use Rattle.mm_base.specs.Statement.{PlainStatement, HasBody}
+use Rattle.mm_base.specs.Blocks.{is_opening, is_closing, openings, closings, AreBalanced, AreClosed}
+use Rattle.mm_base.specs.Blocks.{IsInnermost}
 use Rattle.mm_text.specs.Mirror.Reader.{PlainScope, outermost, scope_after_statement}
 use Rattle.mm_text.specs.Mirror.Reader.{scope_after_opening, scope_after_closing, has_none}
-use Rattle.mm_text.proofs.Lists.{two_cuts}
+use Rattle.mm_base.proofs.Lists.{two_cuts}
 
 -- ---- counts
 

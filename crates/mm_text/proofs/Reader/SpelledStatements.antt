@@ -6,19 +6,20 @@ use Rattle.std.proofs.Common.{append_assoc, ◌⊎◌, inl, inr, ◌≢◌, appe
 use Rattle.std.proofs.Common.{zero, suc}
 use Rattle.std.proofs.lemmas.List.{nil_from_length}
 use Rattle.std.proofs.lemmas.Bool.{cond-true, cond-false, false_from_ne_true, cases_Bool, cases_lt}
-use Rattle.mm_text.specs.declared.statement.Kind.TheVariants.{Opening, Closing, Constants}
-use Rattle.mm_text.specs.declared.statement.Kind.TheVariants.{Variables, Distinct, Floating}
-use Rattle.mm_text.specs.declared.statement.Kind.TheVariants.{Essential, Axiom, Provable}
-use Rattle.mm_text.specs.Token.{PlainToken, is_label, HoldsNoDollar}
-use Rattle.mm_text.specs.Statement.{PlainStatement, IsHead, HasBody, IsBareHead, IsLabelledHead}
-use Rattle.mm_text.specs.Statement.{AreSymbols, FitsCount, label_in, keyword_of, Spells, SpellsAll}
-use Rattle.mm_text.specs.Statement.{IsTail, EndsAtOnce, EndsInProof, is_provable}
+use Rattle.mm_base.specs.declared.statement.Kind.TheVariants.{Opening, Closing, Constants}
+use Rattle.mm_base.specs.declared.statement.Kind.TheVariants.{Variables, Distinct, Floating}
+use Rattle.mm_base.specs.declared.statement.Kind.TheVariants.{Essential, Axiom, Provable}
+use Rattle.mm_base.specs.Token.{PlainToken, is_label, HoldsNoDollar}
+use Rattle.mm_base.specs.Statement.{PlainStatement, IsHead, HasBody, IsBareHead, IsLabelledHead}
+use Rattle.mm_base.specs.Statement.{AreSymbols, FitsCount, label_in, keyword_of, Spells, SpellsAll}
+use Rattle.mm_base.specs.Statement.{IsTail, EndsAtOnce, EndsInProof, is_provable}
 use Rattle.mm_text.specs.Mirror.Reader.{Part, Between, Step, More, Whole, Opened, Closed, Faulty}
-use Rattle.mm_text.specs.Mirror.Reader.{step, bare_statement, Labelled, InBody, InProof, is_full}
+use Rattle.mm_text.specs.Mirror.Reader.{step, Labelled, InBody, InProof, is_full}
+use Rattle.mm_base.specs.Begun.{bare_statement}
 use Rattle.mm_text.specs.Mirror.Reader.{is_keyword}
-use Rattle.mm_text.specs.Items.{spells}
+use Rattle.mm_base.specs.Spelling.{spells}
 use Rattle.mm_text.specs.declared.fault.TextRule.TheVariants.{S5}
-use Rattle.mm_text.specs.declared.statement.Kind.{Kind}
+use Rattle.mm_base.specs.declared.statement.Kind.{Kind}
 use Rattle.mm_text.specs.declared.class.Keyword.{Keyword}
 use Rattle.mm_text.specs.Mirror.Class.{keyword_bytes}
 use Rattle.mm_text.specs.Mirror.Steps.{is_block_sign, bare_kind, labelled_kind, ends_symbols}
@@ -26,7 +27,7 @@ use Rattle.mm_text.specs.Reading.{closes_symbols, IsBeginning, IsBody}
 use Rattle.mm_text.specs.Laws.{BeginsStatement, BeginningsBeginStatements}
 use Rattle.mm_text.proofs.Reader.Unfinished.{IsPartBody, IsPartProof, Describes, has_count_from}
 use Rattle.mm_text.proofs.Reader.Unfinished.{has_count-true, StepsTo, step_right, part_of_beginning}
-use Rattle.mm_text.proofs.Lists.{cons_parts, all_prefix}
+use Rattle.mm_base.proofs.Lists.{cons_parts, all_prefix}
 use Rattle.mm_text.proofs.Reader.OneToken.{step_opens, step_closes, start_by, start_keyword}
 use Rattle.mm_text.proofs.Reader.OneToken.{step_label, labelled_by, label_keyword, step_too_few}
 use Rattle.mm_text.proofs.Reader.OneToken.{step_whole, step_to_proof, step_symbol, step_proof_token}

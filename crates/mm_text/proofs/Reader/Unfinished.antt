@@ -5,21 +5,22 @@ use Rattle.std.proofs.Common.{codes, append_assoc, Some, ◌⊎◌, inl, inr, �
 use Rattle.std.proofs.Common.{cond, Option, None, arith, append-nil, length-append, eqb-true}
 use Rattle.std.proofs.Common.{leb-true, le-leb, eq-eqb}
 use Rattle.std.proofs.lemmas.Bool.{both_ways, cond_both, eqb-false}
-use Rattle.mm_text.specs.declared.statement.Kind.{Kind}
-use Rattle.mm_text.specs.declared.statement.Kind.TheVariants.{Floating, Essential, Axiom, Provable}
-use Rattle.mm_text.specs.declared.statement.Kind.TheVariants.{Constants, Variables, Distinct}
-use Rattle.mm_text.specs.declared.statement.Kind.TheVariants.{Opening, Closing}
-use Rattle.mm_text.specs.Token.{PlainToken, IsLabel, is_label, HoldsNoDollar}
-use Rattle.mm_text.specs.Statement.{PlainStatement, IsHead, HasBody, AreSymbols, label_in}
-use Rattle.mm_text.specs.Statement.{FitsCount, keyword_of, Spells, IsTail, EndsAtOnce, is_provable}
+use Rattle.mm_base.specs.declared.statement.Kind.{Kind}
+use Rattle.mm_base.specs.declared.statement.Kind.TheVariants.{Floating, Essential, Axiom, Provable}
+use Rattle.mm_base.specs.declared.statement.Kind.TheVariants.{Constants, Variables, Distinct}
+use Rattle.mm_base.specs.declared.statement.Kind.TheVariants.{Opening, Closing}
+use Rattle.mm_base.specs.Token.{PlainToken, IsLabel, is_label, HoldsNoDollar}
+use Rattle.mm_base.specs.Statement.{PlainStatement, IsHead, HasBody, AreSymbols, label_in}
+use Rattle.mm_base.specs.Statement.{FitsCount, keyword_of, Spells, IsTail, EndsAtOnce, is_provable}
 use Rattle.mm_text.specs.Reading.{IsBeginning, IsBody, IsInProof, closes_symbols, Meets}
 use Rattle.mm_text.specs.Mirror.Reader.{Part, Between, Labelled, InBody, InProof, part_label}
 use Rattle.mm_text.specs.Mirror.Reader.{part_first, Step, More, Whole, Opened, Closed, Faulty, step}
-use Rattle.mm_text.specs.Mirror.Reader.{is_keyword, bare_statement, has_count, is_full}
-use Rattle.mm_text.specs.Items.{spells}
+use Rattle.mm_text.specs.Mirror.Reader.{is_keyword, has_count, is_full}
+use Rattle.mm_base.specs.Begun.{bare_statement}
+use Rattle.mm_base.specs.Spelling.{spells}
 use Rattle.mm_text.proofs.Reader.OneToken.{same_text-true, same_text-false, is_keyword-true}
 use Rattle.mm_text.proofs.Reader.OneToken.{is_keyword-false, IsSigned, signed_word}
-use Rattle.mm_text.proofs.Lists.{all_append}
+use Rattle.mm_base.proofs.Lists.{all_append}
 
 -- ==== what a reader has of an unfinished statement, against its tokens
 

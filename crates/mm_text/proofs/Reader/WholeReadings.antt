@@ -6,19 +6,20 @@ use Rattle.std.proofs.Common.{not, replicate, count_by, ◌≢◌, ◌<◌, refl
 use Rattle.std.specs.List.{AllByRecursion}
 use Rattle.std.proofs.lemmas.Bool.{cond_both, cond-true, cond-false}
 use Rattle.std.proofs.lemmas.List.Sums.{sum_by-append, sum_by-cons}
-use Rattle.mm_text.specs.declared.statement.Kind.{Kind}
-use Rattle.mm_text.specs.declared.statement.Kind.TheVariants.{Provable, Opening, Closing, Floating}
-use Rattle.mm_text.specs.declared.statement.Kind.TheVariants.{Essential, Axiom}
-use Rattle.mm_text.specs.Token.{PlainToken, is_label, IsLabel, tokens_from}
-use Rattle.mm_text.specs.Statement.{PlainStatement, label_in, Spells, SpellsAll, IsTail, bytes_in}
-use Rattle.mm_text.specs.Statement.{IsHead, IsLabelledHead, HasLabel, HasForm}
+use Rattle.mm_base.specs.declared.statement.Kind.{Kind}
+use Rattle.mm_base.specs.declared.statement.Kind.TheVariants.{Provable, Opening, Closing, Floating}
+use Rattle.mm_base.specs.declared.statement.Kind.TheVariants.{Essential, Axiom}
+use Rattle.mm_base.specs.Token.{PlainToken, is_label, IsLabel, tokens_from}
+use Rattle.mm_base.specs.Statement.{PlainStatement, label_in, Spells, SpellsAll, IsTail, bytes_in}
+use Rattle.mm_base.specs.Statement.{IsHead, IsLabelledHead, HasLabel, HasForm}
 use Rattle.mm_text.specs.Items.{Item, plain_tokens, items, Plain, Wrong, End, Shown}
 use Rattle.mm_text.specs.Items.{without_comments, Spot, Outside, Piece, Met, pieces, pieces_of}
 use Rattle.mm_text.specs.Items.{put_before, put_in}
 use Rattle.mm_text.specs.Reading.{PlainFault, ReadsAs, Reads, IsSliceOf, IsInPlace}
-use Rattle.mm_text.specs.Files.{PlainFile, total_bytes, most_bytes, HasTwins, BreaksLoad}
+use Rattle.mm_text.specs.Files.{PlainFile, total_bytes, HasTwins, BreaksLoad}
+use Rattle.mm_base.specs.MostBytes.{most_bytes}
 use Rattle.mm_text.specs.Laws.{EachHasOneReading}
-use Rattle.mm_text.specs.Blocks.{AreBalanced}
+use Rattle.mm_base.specs.Blocks.{AreBalanced}
 use Rattle.mm_text.specs.declared.fault.LoadRule.{LoadRule}
 use Rattle.mm_text.specs.declared.fault.LoadRule.TheVariants.{F1, F2, F3}
 use Rattle.mm_text.specs.declared.statements.State.{State}
@@ -28,7 +29,7 @@ use Rattle.mm_text.specs.Remaining.{IsUnread}
 use Rattle.mm_text.specs.Mirror.ReaderState.{remaining_in, AreFew, AreFormedInPlace}
 use Rattle.mm_text.proofs.Reader.OneReading.{plain_tokens-append, ComesToStop, AreSettled}
 use Rattle.mm_text.proofs.Reader.OneReading.{items_read, reads_reading}
-use Rattle.mm_text.proofs.Lists.{all_prefix, all_back}
+use Rattle.mm_base.proofs.Lists.{all_prefix, all_back}
 use Rattle.mm_text.proofs.Inclusions.ItemTokens.{HoldsByte, items_in_place, items_some}
 use Rattle.mm_text.proofs.Inclusions.ItemTokens.{items_signed}
 use Rattle.mm_text.proofs.Inclusions.EachOnce.{tokens_fit}

@@ -4,13 +4,13 @@
 use Rattle.std.proofs.Common.{◌≡◌, List, [], ◌∷◌, ◌++◌, map, refl, sym, ap, ◌∙◌, append_assoc, ℕ}
 use Rattle.std.proofs.Common.{◌+◌, length, None, ◌<◌, subst, append-nil, arith}
 use Rattle.std.proofs.lemmas.List.{map-append}
-use Rattle.mm_text.specs.Token.{PlainToken, tokens_from}
+use Rattle.mm_base.specs.Token.{PlainToken, tokens_from}
 use Rattle.mm_text.specs.Files.{PlainFile}
-use Rattle.mm_text.specs.Statement.{PlainStatement, EndsInProof, IsTail, SpellsAll}
+use Rattle.mm_base.specs.Statement.{PlainStatement, EndsInProof, IsTail, SpellsAll}
 use Rattle.mm_text.specs.Items.{Item, Plain, plain_tokens, items, Shown, Clear, without_comments}
 use Rattle.mm_text.specs.Replaced.{ProofsStandInSpans, ProofSpansFollow}
-use Rattle.mm_text.specs.declared.statement.Kind.{Kind}
-use Rattle.mm_text.specs.declared.statement.Kind.TheVariants.{Provable}
+use Rattle.mm_base.specs.declared.statement.Kind.{Kind}
+use Rattle.mm_base.specs.declared.statement.Kind.TheVariants.{Provable}
 use Rattle.mm_text.proofs.Inclusions.FilePieces.{StandsInFile, run_stands}
 use Rattle.mm_text.proofs.Reader.OneReading.{spells_append, plain_tokens-append}
 use Rattle.mm_text.proofs.Replaced.ReplacedReading.{Parts, WholePrefix, own_stands, reads_prefix}

@@ -4,11 +4,11 @@ use Rattle.std.proofs.Common.{◌≡◌, ◌≢◌, ℕ, ◌+◌, List, [], ◌�
 use Rattle.std.proofs.Common.{◌∙◌, subst, append_assoc, append-nil, arith, None, slice_set}
 use Rattle.std.proofs.Common.{length-append}
 use Rattle.std.specs.List.{AllZip}
-use Rattle.mm_text.specs.declared.statement.Kind.{Kind}
-use Rattle.mm_text.specs.declared.statement.Kind.TheVariants.{Provable}
-use Rattle.mm_text.specs.Token.{PlainToken, tokens_from}
+use Rattle.mm_base.specs.declared.statement.Kind.{Kind}
+use Rattle.mm_base.specs.declared.statement.Kind.TheVariants.{Provable}
+use Rattle.mm_base.specs.Token.{PlainToken, tokens_from}
 use Rattle.mm_text.specs.Files.{PlainFile}
-use Rattle.mm_text.specs.Statement.{PlainStatement, EndsInProof, IsTail, Spells, SpellsAll, IsHead}
+use Rattle.mm_base.specs.Statement.{PlainStatement, EndsInProof, IsTail, Spells, SpellsAll, IsHead}
 use Rattle.mm_text.specs.Items.{plain_tokens, items}
 use Rattle.mm_text.specs.Reading.{Viable, Reads}
 use Rattle.mm_text.specs.Alike.{token_on, item_on}
@@ -19,7 +19,7 @@ use Rattle.mm_text.proofs.Reader.OneReading.{spells_append}
 use Rattle.mm_text.proofs.Replaced.ReplacedReading.{Parts, without_rest, nowhere, proof_at, read_so}
 use Rattle.mm_text.proofs.Replaced.ReplacedReading.{spelled_long, parts_long}
 use Rattle.mm_text.proofs.Replaced.ProofSpans.{ends_home}
-use Rattle.mm_text.proofs.Lists.{cons_parts, zip_mapped, zip_weaker}
+use Rattle.mm_base.proofs.Lists.{cons_parts, zip_mapped, zip_weaker}
 use Rattle.mm_text.proofs.Alike.AlikeItems.{SameItem}
 use Rattle.mm_text.proofs.Replaced.ReplacedProofs.{home, same_nowhere, stands, put, symbols, last}
 use Rattle.mm_text.proofs.Replaced.ReplacedProofs.{others, one, other, altered}

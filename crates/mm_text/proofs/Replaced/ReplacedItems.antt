@@ -10,14 +10,15 @@ use Rattle.std.proofs.lemmas.List.{map-append, get_or-replicate}
 use Rattle.std.proofs.Math.Seq.{take-append_seam, drop-append_seam}
 use Rattle.std.proofs.Math.Decide.{ℕ_discrete}
 use Rattle.std.proofs.lemmas.Option.{slice_get_cases, same_Some, slice_get_within}
-use Rattle.mm_text.specs.Token.{PlainToken, tokens_from}
+use Rattle.mm_base.specs.Token.{PlainToken, tokens_from}
 use Rattle.mm_text.specs.Files.{PlainFile}
 use Rattle.mm_text.specs.Items.{Plain, Shown, Clear, without_comments, Outside, Piece, Met, pieces}
 use Rattle.mm_text.specs.Items.{pieces_of, Item, Named, file_number, with_inclusions, put_before}
 use Rattle.mm_text.specs.Items.{put_in, items}
 use Rattle.mm_text.specs.Alike.{token_on, shown_on}
 use Rattle.mm_text.specs.Replaced.{IsProofToken, IsProofText, with_span}
-use Rattle.mm_text.proofs.Tokens.WordsAndComments.{BeginsWithSpace, outside-clear, no_dollar-spells}
+use Rattle.mm_base.proofs.TokensFrom.{BeginsWithSpace}
+use Rattle.mm_text.proofs.Tokens.WordsAndComments.{outside-clear, no_dollar-spells}
 use Rattle.mm_text.proofs.Inclusions.FilePieces.{pieces-plain, IsPlainIn, AllPlainIn, StandsInFile}
 use Rattle.mm_text.proofs.Inclusions.FilePieces.{is_wrong, named_related, spliced_nil, spliced_met}
 use Rattle.mm_text.proofs.Inclusions.FilePieces.{spliced_name}
@@ -27,7 +28,7 @@ use Rattle.mm_text.proofs.Alike.AlikeItems.{same_number}
 use Rattle.mm_text.proofs.Alike.HollowFiles.{seen, lines_seen}
 use Rattle.mm_text.proofs.Tokens.CutTokens.{IsSpaced, replaced_between, clear_shown}
 use Rattle.mm_text.proofs.Inclusions.EachOnce.{Rises, rises_earlier, tokens_rise}
-use Rattle.mm_text.proofs.Lists.{all_push, all_weaker, mapped_zip, zip_append, get_set_same}
+use Rattle.mm_base.proofs.Lists.{all_push, all_weaker, mapped_zip, zip_append, get_set_same}
 
 -- ==== the pieces of a file in which other bytes stand between the `$=` and the `$.` of a statement
 

@@ -6,9 +6,9 @@ use Rattle.std.specs.List.{AllZip, AllByRecursion, list_any}
 use Rattle.std.proofs.lemmas.List.Sums.{sum_by-append, sum_by-cons}
 use Rattle.std.proofs.lemmas.List.{map-append, append_cancel_left}
 use Rattle.std.proofs.lemmas.Bool.{cond_both}
-use Rattle.mm_text.specs.Token.{PlainToken, tokens_from, HoldsNoDollar}
+use Rattle.mm_base.specs.Token.{PlainToken, tokens_from, HoldsNoDollar}
 use Rattle.mm_text.specs.Files.{PlainFile}
-use Rattle.mm_text.specs.Statement.{PlainStatement, AreSymbols}
+use Rattle.mm_base.specs.Statement.{PlainStatement, AreSymbols}
 use Rattle.mm_text.specs.Items.{Item, Plain, Clear, Shown, Piece, Met, plain_tokens, pieces_of}
 use Rattle.mm_text.specs.Items.{items}
 use Rattle.mm_text.specs.Alike.{item_on}
@@ -22,7 +22,7 @@ use Rattle.mm_text.proofs.Inclusions.FilePieces.{StandsInFile, run_stands}
 use Rattle.mm_text.proofs.Replaced.ReplacedItems.{further, met, replaced_pieces, Alter, with_file}
 use Rattle.mm_text.proofs.Replaced.ReplacedItems.{replaced_items, set_there}
 use Rattle.mm_text.proofs.Replaced.ReplacedReading.{nowhere, ProofAt}
-use Rattle.mm_text.proofs.Lists.{all_prefix, all_back, all_weaker, two_cuts}
+use Rattle.mm_base.proofs.Lists.{all_prefix, all_back, all_weaker, two_cuts}
 
 -- ---- the file of a token
 

@@ -4,15 +4,15 @@ use Rattle.std.proofs.Common.{codes, Option, Some, None, inl, append_assoc, appe
 use Rattle.std.proofs.Common.{length-append, arith}
 use Rattle.std.specs.List.{AllZip}
 use Rattle.std.proofs.lemmas.List.{map-append, append_cancel_left}
-use Rattle.mm_text.specs.declared.statement.Kind.{Kind}
-use Rattle.mm_text.specs.declared.statement.Kind.TheVariants.{Provable, Opening, Closing}
-use Rattle.mm_text.specs.Token.{PlainToken}
+use Rattle.mm_base.specs.declared.statement.Kind.{Kind}
+use Rattle.mm_base.specs.declared.statement.Kind.TheVariants.{Provable, Opening, Closing}
+use Rattle.mm_base.specs.Token.{PlainToken}
 use Rattle.mm_text.specs.Files.{PlainFile}
-use Rattle.mm_text.specs.Statement.{PlainStatement, AreSymbols, IsTail, EndsInProof, Spells}
-use Rattle.mm_text.specs.Statement.{SpellsAll, IsHead}
+use Rattle.mm_base.specs.Statement.{PlainStatement, AreSymbols, IsTail, EndsInProof, Spells}
+use Rattle.mm_base.specs.Statement.{SpellsAll, IsHead}
 use Rattle.mm_text.specs.Items.{Item, Plain, Wrong, Inclusion, End, plain_tokens, HoldNoFault}
 use Rattle.mm_text.specs.Items.{items}
-use Rattle.mm_text.specs.Blocks.{AreBalanced}
+use Rattle.mm_base.specs.Blocks.{AreBalanced}
 use Rattle.mm_text.specs.Reading.{PlainFault, Viable, IsBeginning, ReadsAs, Reads}
 use Rattle.mm_text.specs.Alike.{statement_on, fault_on, item_on}
 use Rattle.mm_text.specs.Mirror.Reader.{Part, Between, InProof, PlainScope, outermost, PlainReading}
@@ -29,8 +29,8 @@ use Rattle.mm_text.proofs.Reader.WholeReadings.{files_reading, reading_reads}
 use Rattle.mm_text.proofs.Alike.AlikeReadings.{reading_on, same_read, plain_tokens_alike}
 use Rattle.mm_text.specs.Replaced.{placeless}
 use Rattle.mm_text.proofs.Alike.AlikeItems.{SameItem}
-use Rattle.mm_text.proofs.Lists.{cons_parts, nil_append, one_parting, same_length, unmapped}
-use Rattle.mm_text.proofs.Lists.{zip_mapped}
+use Rattle.mm_base.proofs.Lists.{cons_parts, nil_append, one_parting, same_length, unmapped}
+use Rattle.mm_base.proofs.Lists.{zip_mapped}
 use Rattle.mm_text.specs.declared.class.Keyword.TheVariants as keyword
 
 -- no position matters

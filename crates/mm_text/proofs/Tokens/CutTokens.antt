@@ -5,14 +5,16 @@ use Rattle.std.proofs.Common.{false, refl, sym, ap, ◌∙◌, subst, arith, add
 use Rattle.std.proofs.Common.{append_assoc, codes, Option, Some, None, append-nil, length-append}
 use Rattle.std.proofs.lemmas.Bool.{cases_Bool}
 use Rattle.std.specs.List.{list_all}
-use Rattle.mm_text.specs.Token.{PlainToken, is_space, with_byte, tokens_from, is_printable}
+use Rattle.mm_base.specs.Token.{PlainToken, is_space, with_byte, tokens_from, is_printable}
 use Rattle.mm_text.specs.Alike.{token_on}
-use Rattle.mm_text.specs.Items.{Shown, Clear, without_comments, spells, holds_mark}
-use Rattle.mm_text.proofs.Lists.{choice_mapped, cons_parts, nil_append}
-use Rattle.mm_text.proofs.Tokens.WordsAndComments.{ahead, begin_far, by_position, run, tokens_ahead}
-use Rattle.mm_text.proofs.Tokens.WordsAndComments.{tokens_from-space, tokens_from-nil}
-use Rattle.mm_text.proofs.Tokens.WordsAndComments.{tokens_from-run, tokens_from_begin, BeginFrom}
-use Rattle.mm_text.proofs.Tokens.WordsAndComments.{AreInk, BeginsWithSpace, with_byte_apart}
+use Rattle.mm_text.specs.Items.{Shown, Clear, without_comments, holds_mark}
+use Rattle.mm_base.specs.Spelling.{spells}
+use Rattle.mm_base.proofs.Lists.{choice_mapped, cons_parts, nil_append}
+use Rattle.mm_text.proofs.Tokens.WordsAndComments.{ahead, begin_far, by_position, tokens_ahead}
+use Rattle.mm_base.proofs.TokensFrom.{run}
+use Rattle.mm_base.proofs.TokensFrom.{tokens_from-space, tokens_from-nil}
+use Rattle.mm_base.proofs.TokensFrom.{tokens_from-run, tokens_from_begin, BeginFrom}
+use Rattle.mm_base.proofs.TokensFrom.{AreInk, BeginsWithSpace, with_byte_apart}
 use Rattle.mm_text.proofs.Tokens.WordsAndComments.{in_comment-illegal, in_comment-close}
 use Rattle.mm_text.proofs.Tokens.WordsAndComments.{in_comment-mark, in_comment-more, in_comment-end}
 use Rattle.mm_text.proofs.Tokens.WordsAndComments.{outside-end, outside-illegal, outside-begin}

@@ -11,12 +11,12 @@ use Rattle.std.proofs.lemmas.Simd.{leading_from_mask_l, trailing_mask_l}
 use Rattle.std.proofs.lemmas.List.{length-map}
 use Rattle.std.proofs.lemmas.List.Sums.{prefix_len-le-length, prefix_len_passes, prefix_len_stops}
 use Rattle.std.specs.List.{prefix_len, list_all}
-use lib.Lanes.{chunk, zip2, mask_l, top}
 use Rattle.std.proofs.lemmas.List.Folds.{list_all_at}
 use Rattle.std.proofs.str.Laws.{order}
 use Rattle.mm_text.specs.Mirror.Sought.{IsRunIn, first_set}
-use Rattle.mm_text.specs.Token.{is_space}
+use Rattle.mm_base.specs.Token.{is_space}
 use Rattle.mm_text.specs.Mirror.Position.{is_legal}
+use lib.Lanes.{chunk, zip2, mask_l, top}
 
 -- ==== from the mask of one load to the bytes that are passed over
 

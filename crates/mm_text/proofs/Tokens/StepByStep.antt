@@ -1,43 +1,19 @@
 -- From the bytes of files to their items, in four layers: tokens, what is shown of them, pieces,
 -- items. For each layer: what every step of it keeps holds of the whole.
-use Rattle.std.proofs.Common.{◌≡◌, ℕ, zero, suc, ◌+◌, ◌==◌, List, [], ◌∷◌, ◌++◌, Bool, true, false}
+use Rattle.std.proofs.Common.{◌≡◌, ℕ, zero, suc, List, [], ◌∷◌, ◌++◌, Bool, true, false}
 use Rattle.std.proofs.Common.{cond, not, codes, refl, Option, Some, None, slice_get, slice_index_or}
-use Rattle.std.proofs.Common.{slice_set, eqb-true}
+use Rattle.std.proofs.Common.{slice_set}
 use Rattle.std.specs.List.{list_all}
 use Rattle.std.proofs.lemmas.Bool.{cond_both}
 use Rattle.mm_text.specs.declared.fault.TextRule.{TextRule}
 use Rattle.mm_text.specs.declared.fault.TextRule.TheVariants.{X1, X2, X3, X4, X5, X7}
-use Rattle.mm_text.specs.Token.{PlainToken, is_printable, is_space, with_byte, tokens_from}
+use Rattle.mm_base.specs.Token.{PlainToken, is_printable}
 use Rattle.mm_text.specs.Files.{PlainFile}
 use Rattle.mm_text.specs.Items.{Item, Plain, Wrong, Inclusion, End, Shown, Clear, Broken}
-use Rattle.mm_text.specs.Items.{without_comments, spells, holds_dollar, holds_mark, Spot, Outside}
+use Rattle.mm_text.specs.Items.{without_comments, holds_dollar, holds_mark, Spot, Outside}
+use Rattle.mm_base.specs.Spelling.{spells}
 use Rattle.mm_text.specs.Items.{Naming, Closing, Piece, Met, Named, broken_outside, pieces}
 use Rattle.mm_text.specs.Items.{pieces_of, file_number, with_inclusions, put_before, put_in}
-
--- the tokens of bytes: each byte is white space, a token of its own, or goes onto the next token
-module _ (file : ℕ) (P : ℕ → List ℕ → List PlainToken → Type 0) (nothing : (at : ℕ) → P at [] [])
-    (space : (at b : ℕ) (bytes : List ℕ) (tokens : List PlainToken) → P (at + 1) bytes tokens
-    → P at (b ∷ bytes) tokens)
-    (alone : (at b : ℕ) (bytes : List ℕ) (tokens : List PlainToken) → P (at + 1) bytes tokens
-    → P at (b ∷ bytes) (record { text = b ∷ []; file = file; at = at } ∷ tokens))
-    (joined : (at b : ℕ) (bytes : List ℕ) (t : PlainToken) (tokens : List PlainToken)
-    → t.at ≡ at + 1 → P (at + 1) bytes (t ∷ tokens)
-    → P at (b ∷ bytes) (record { text = b ∷ t.text; file = file; at = at } ∷ tokens)) where
-  pub tokens_by : (at : ℕ) (bytes : List ℕ) → P at bytes (tokens_from file at bytes)
-  unfolding tokens_from
-  tokens_by at [] = nothing at
-  tokens_by at (b ∷ bytes) =
-      let inner = tokens_by (at + 1) bytes in
-      cond_both (is_space b) _ _ (P at (b ∷ bytes)) (λ _. space at b bytes _ inner)
-      (λ _. byte (tokens_from file (at + 1) bytes) inner)
-    where
-      byte : (tokens : List PlainToken) → P (at + 1) bytes tokens
-          → P at (b ∷ bytes) (with_byte file at b tokens)
-      byte [] h = alone at b bytes [] h
-      byte (t ∷ tokens) h =
-          cond_both (t.at == at + 1) _ _ (P at (b ∷ bytes))
-          (λ e. joined at b bytes t tokens (eqb-true t.at (at + 1) e) h)
-          (λ _. alone at b bytes (t ∷ tokens) h)
 
 -- what is shown of tokens: each is shown, belongs to a comment, or a fault ends all
 module _ (P : List PlainToken → List Shown → Type 0) (nothing : P [] [])

@@ -6,7 +6,7 @@ use Rattle.std.proofs.Common.{drop, ap, slice_range, length-drop, length-take-le
 use Rattle.std.proofs.str.Laws.{order}
 use Rattle.std.proofs.lemmas.List.Folds.{list_any_at, list_any_none}
 use Rattle.std.proofs.lemmas.List.Elements.{All-from_get_or}
-use Rattle.mm_text.specs.Token.{is_space}
+use Rattle.mm_base.specs.Token.{is_space}
 use Rattle.mm_text.specs.Items.{holds_dollar}
 use Rattle.mm_text.proofs.Tokens.WordsAndComments.{slice_byte}
 

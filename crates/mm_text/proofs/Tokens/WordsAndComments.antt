@@ -1,98 +1,26 @@
 -- How the tokens of a file come from its bytes: white space is skipped, a run of other bytes is
 -- one token, and a comment is skipped up to its end.
 use Rattle.std.proofs.Common.{◌≡◌, ℕ, ◌+◌, ◌-◌, ◌<◌, ◌≤◌, ◌==◌, List, [], ◌∷◌, ◌++◌, length, get_or}
-use Rattle.std.proofs.Common.{drop, true, false, refl, sym, ap, ◌∙◌, subst, arith, eq-eqb, add-zero}
+use Rattle.std.proofs.Common.{drop, true, false, refl, sym, ap, ◌∙◌, subst, arith, add-zero}
 use Rattle.std.proofs.Common.{⊎_elim, append-nil, ◌&&◌, ◌||◌, take, Bool, cond, not, Some, None}
 use Rattle.std.proofs.Common.{◌⊎◌, inl, inr, slice_range, codes, drop-drop, take-append-drop}
-use Rattle.std.proofs.Common.{get_or-drop, get_or-take, length-drop, length-take-le, ne_eqb}
+use Rattle.std.proofs.Common.{get_or-drop, get_or-take, length-drop, length-take-le}
 use Rattle.std.specs.List.{AllByRecursion, list_any, list_all}
 use Rattle.std.proofs.lemmas.List.{drop_more, drop_all}
 use Rattle.std.proofs.lemmas.Bool.{cases_Bool, cases_lt, cond_both, or_parts, or_right, both_ways}
 use Rattle.std.proofs.str.Laws.{order}
 use Rattle.std.proofs.lemmas.List.Folds.{list_all_at}
-use Rattle.mm_text.specs.Token.{PlainToken, is_space, with_byte, tokens_from, is_printable}
+use Rattle.mm_base.specs.Token.{PlainToken, is_space, with_byte, tokens_from, is_printable}
 use Rattle.mm_text.specs.declared.fault.TextRule.TheVariants.{X1, X2, X3, X4}
-use Rattle.mm_text.specs.Items.{Clear, Broken, without_comments, spells, holds_mark}
+use Rattle.mm_text.specs.Items.{Clear, Broken, without_comments, holds_mark}
+use Rattle.mm_base.specs.Spelling.{spells}
 use Rattle.mm_text.specs.Mirror.Position.{is_legal, is_quiet, IsLegalPrefix, IsLegalUpTo, IsMarkAt}
 use Rattle.mm_text.specs.Mirror.Position.{IsClosedAt, IsLater, comment_at, shown_at}
 use Rattle.mm_text.specs.declared.comments.Position.{Position}
-use Rattle.mm_text.specs.Files.{most_bytes}
-use Rattle.mm_text.proofs.Tokens.StepByStep.{tokens_by}
-use Rattle.mm_text.proofs.Lists.{all_positions, choice_mapped}
+use Rattle.mm_base.specs.MostBytes.{most_bytes}
+use Rattle.mm_base.proofs.Lists.{all_positions, choice_mapped}
 use Rattle.mm_text.proofs.Tokens.ManyBytes.{all_from_positions}
-
--- ==== how the tokens of a file come from its bytes: white space is skipped, and a run of other
--- bytes is one token
-
--- a space in front is skipped
-pub tokens_from-space : (file at b : ℕ) (bytes : List ℕ) → is_space b ≡ true → tokens_from file at (b ∷ bytes) ≡ tokens_from file (at + 1) bytes
-unfolding tokens_from
-tokens_from-space file at b bytes space = simp space
-
--- another byte goes onto the front of the next token, or is one
-pub tokens_from-byte : (file at b : ℕ) (bytes : List ℕ) → is_space b ≡ false → tokens_from file at (b ∷ bytes) ≡ with_byte file at b (tokens_from file (at + 1) bytes)
-unfolding tokens_from
-tokens_from-byte file at b bytes other = simp other
-
-pub tokens_from-nil : (file at : ℕ) → tokens_from file at [] ≡ []
-unfolding tokens_from
-tokens_from-nil file at = refl
-
--- the first token, if there is one, begins at or after a position
-abbrev pub BeginFrom : ℕ → List PlainToken → Type 0
-BeginFrom at [] = Unit {0}
-BeginFrom at (t ∷ tokens) = at ≤ t.at
-
--- what begins after a position begins at or after it
-begin_earlier : (at : ℕ) (tokens : List PlainToken) → BeginFrom (at + 1) tokens → BeginFrom at tokens
-begin_earlier at [] h = tt
-begin_earlier at (t ∷ tokens) h = omega arith
-
-pub tokens_from_begin : (file at : ℕ) (bytes : List ℕ) → BeginFrom at (tokens_from file at bytes)
-tokens_from_begin file at bytes =
-    tokens_by file (λ n _ tokens. BeginFrom n tokens) (λ n. tt)
-    (λ n b bs tokens inner. begin_earlier n tokens inner) (λ n b bs tokens inner. omega arith)
-    (λ n b bs t tokens e inner. omega arith) at bytes
-
--- bytes none of which is white space
-abbrev pub AreInk : List ℕ → Type 0
-AreInk bytes = AllByRecursion (λ b. is_space b ≡ false) bytes
-
--- what comes after a token: white space, or nothing
-abbrev pub BeginsWithSpace : List ℕ → Type 0
-BeginsWithSpace [] = Unit {0}
-BeginsWithSpace (b ∷ bytes) = is_space b ≡ true
-
--- a byte before tokens that begin later is a token of its own
-pub with_byte_apart : (file at b : ℕ) (tokens : List PlainToken) → BeginFrom (at + 2) tokens → with_byte file at b tokens ≡ record { text = b ∷ []; file = file; at = at } ∷ tokens
-with_byte_apart file at b [] h = refl
-with_byte_apart file at b (t ∷ tokens) h =
-    let apart : (t.at == at + 1) ≡ false = ne_eqb t.at (at + 1) (λ e. omega (arith, e)) in
-    simp apart
-
--- after the last byte of a token
-last_byte : (file at b : ℕ) (rest : List ℕ) → BeginsWithSpace rest → with_byte file at b (tokens_from file (at + 1) rest) ≡ record { text = b ∷ []; file = file; at = at } ∷ tokens_from file (at + 1) rest
-last_byte file at b [] h = rw tokens_from-nil refl
-last_byte file at b (s ∷ rest) h =
-    rw (tokens_from-space file (at + 1) s rest h)
-    (with_byte_apart file at b _ (subst (λ n. BeginFrom n (tokens_from file (at + 1 + 1) rest)) (omega arith) (tokens_from_begin file (at + 1 + 1) rest)))
-
--- a byte onto the front of the token after it
-pub with_byte_joined : (file at b : ℕ) (text : List ℕ) (tokens : List PlainToken) → with_byte file at b (record { text = text; file = file; at = at + 1 } ∷ tokens) ≡ record { text = b ∷ text; file = file; at = at } ∷ tokens
-with_byte_joined file at b text tokens =
-    let same : (at + 1 == at + 1) ≡ true = eq-eqb _ _ refl in
-    simp same
-
--- a longest run of bytes that aren't white space is one token
-pub tokens_from-run : (file at b : ℕ) (run rest : List ℕ) → AreInk (b ∷ run) → BeginsWithSpace rest → tokens_from file at (b ∷ run ++ rest) ≡ record { text = b ∷ run; file = file; at = at } ∷ tokens_from file (at + length (b ∷ run)) rest
-tokens_from-run file at b [] rest ink after =
-    tokens_from-byte file at b rest ink.0 ∙ last_byte file at b rest after
-tokens_from-run file at b (c ∷ run) rest ink after =
-    let further : at + 1 + length (c ∷ run) ≡ at + length (b ∷ c ∷ run) = omega arith in
-    tokens_from-byte file at b (c ∷ run ++ rest) ink.0
-    ∙ ap (with_byte file at b) (tokens_from-run file (at + 1) c run rest ink.1 after)
-    ∙ with_byte_joined file at b (c ∷ run) _
-    ∙ ap (λ n. record { text = b ∷ c ∷ run; file = file; at = at } ∷ tokens_from file n rest) further
+use Rattle.mm_base.proofs.TokensFrom.{AreInk, BeginFrom, BeginsWithSpace, begin_earlier, run, tokens_from-nil, tokens_from-run, tokens_from-space, with_byte_apart, with_byte_joined}
 
 -- the same, of the bytes of a file by their positions
 
@@ -150,13 +78,6 @@ pub holds_mark-short : (text : List ℕ) → length text ≤ 1 → holds_mark te
 holds_mark-short [] short = refl
 holds_mark-short (b ∷ []) short = refl
 holds_mark-short (b ∷ c ∷ text) short = absurd (omega arith)
-
--- ---- tokens told from their begin on
-
--- the bytes up to the next white space
-abbrev pub run : List ℕ → List ℕ
-run [] = []
-run (b ∷ bytes) = cond (is_space b) [] (b ∷ run bytes)
 
 -- The tokens of bytes, each with a number in place of its position: the number goes on at each
 -- byte. At the beginning a token may go on that began before.

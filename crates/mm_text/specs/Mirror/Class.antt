@@ -7,7 +7,7 @@ use Rattle.mm_text.specs.declared.class.Keyword.TheVariants.{Floating, Essential
 use Rattle.mm_text.specs.declared.class.Keyword.TheVariants.{Stop, Equals, Opening, Closing}
 use Rattle.mm_text.specs.declared.class.Class.{Class}
 use Rattle.mm_text.specs.declared.class.Class.TheVariants as class
-use Rattle.mm_text.specs.Token.{HoldsNoDollar}
+use Rattle.mm_base.specs.Token.{HoldsNoDollar}
 use Rattle.mm_text.specs.Items.{broken_outside}
 
 -- the bytes of a keyword

@@ -7,7 +7,7 @@ use Rattle.std.specs.List.{list_all}
 use Rattle.mm_text.specs.declared.hollow.State.{State}
 use Rattle.mm_text.specs.declared.hollow.State.TheVariants.{Outside, Blank, Dollar, Begun}
 use Rattle.mm_text.specs.declared.hollow.State.TheVariants.{Inside, Marked}
-use Rattle.mm_text.specs.Token.{is_space}
+use Rattle.mm_base.specs.Token.{is_space}
 use Rattle.mm_text.specs.Alike.{shows}
 use Rattle.mm_text.specs.Mirror.Position.{is_quiet}
 

@@ -5,7 +5,7 @@ use Rattle.mm_text.specs.declared.fault.LoadRule.TheVariants.{F2}
 use Rattle.mm_text.specs.declared.fault.TextFault.{TextFault}
 use Rattle.mm_text.specs.declared.fault.TextFault.TheVariants.{Load, Fault, Memory}
 use Rattle.mm_text.specs.Files.{PlainFile, HasTwins}
-use Rattle.mm_text.specs.Items.{spells}
+use Rattle.mm_base.specs.Spelling.{spells}
 
 -- the number that a name stands for: its index among the names
 abbrev pub number_among : List (List ℕ) → List ℕ → Option ℕ

@@ -10,11 +10,12 @@ use Rattle.mm_text.specs.declared.comments.Wrong.{Wrong}
 use Rattle.mm_text.specs.declared.nest.Nest.{Nest}
 use Rattle.mm_text.specs.declared.next.Next.{Next}
 use Rattle.mm_text.specs.declared.next.Next.TheVariants as next
-use Rattle.mm_text.specs.declared.token.Token.{Token}
+use Rattle.mm_base.specs.declared.token.Token.{Token}
 use Rattle.mm_text.specs.declared.class.Class.{Class}
 use Rattle.mm_text.specs.declared.class.Class.TheVariants as class
-use Rattle.mm_text.specs.Token.{PlainToken, plain_token}
-use Rattle.mm_text.specs.Files.{most_bytes, plain_file, total_bytes}
+use Rattle.mm_base.specs.Token.{PlainToken, plain_token}
+use Rattle.mm_base.specs.MostBytes.{most_bytes}
+use Rattle.mm_text.specs.Files.{plain_file, total_bytes}
 use Rattle.mm_text.specs.Items as items
 use Rattle.mm_text.specs.Items.{Item, Plain, Inclusion, End, Piece, Met, Named, Spot, Outside}
 use Rattle.mm_text.specs.Items.{Naming, Closing, Clear, pieces, put_in, file_number}

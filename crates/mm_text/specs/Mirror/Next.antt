@@ -5,12 +5,13 @@ use Rattle.mm_text.specs.declared.class.Class.{Class}
 use Rattle.mm_text.specs.declared.class.Class.TheVariants as class
 use Rattle.mm_text.specs.declared.next.Next.{Next}
 use Rattle.mm_text.specs.declared.next.Next.TheVariants as next
-use Rattle.mm_text.specs.declared.token.Token.{Token}
+use Rattle.mm_base.specs.declared.token.Token.{Token}
 use Rattle.mm_text.specs.declared.fault.TextFault.{TextFault}
 use Rattle.mm_text.specs.declared.fault.TextFault.TheVariants.{Load, Fault, Memory}
 use Rattle.mm_text.specs.Mirror.Class.{keyword_bytes}
-use Rattle.mm_text.specs.Token.{PlainToken, plain_token, HoldsNoDollar}
-use Rattle.mm_text.specs.Files.{most_bytes, PlainFile, BreaksLoad}
+use Rattle.mm_base.specs.Token.{PlainToken, plain_token, HoldsNoDollar}
+use Rattle.mm_base.specs.MostBytes.{most_bytes}
+use Rattle.mm_text.specs.Files.{PlainFile, BreaksLoad}
 use Rattle.mm_text.specs.declared.fault.LoadRule.{LoadRule}
 use Rattle.mm_text.specs.Items.{Item, Plain, Wrong, Inclusion, End, items}
 

@@ -10,10 +10,11 @@ use Rattle.mm_text.specs.declared.comments.Comment.TheVariants.{Open, Closed}
 use Rattle.mm_text.specs.declared.comments.Found.{Found}
 use Rattle.mm_text.specs.declared.comments.Found.TheVariants as found
 use Rattle.mm_text.specs.declared.comments.Wrong.{Wrong}
-use Rattle.mm_text.specs.declared.token.Token.{Token}
-use Rattle.mm_text.specs.Token.{PlainToken, plain_token, tokens_from, is_space, is_printable}
-use Rattle.mm_text.specs.Items.{Shown, Clear, Broken, without_comments, spells, holds_dollar}
-use Rattle.mm_text.specs.Files.{most_bytes}
+use Rattle.mm_base.specs.declared.token.Token.{Token}
+use Rattle.mm_base.specs.Token.{PlainToken, plain_token, tokens_from, is_space, is_printable}
+use Rattle.mm_text.specs.Items.{Shown, Clear, Broken, without_comments, holds_dollar}
+use Rattle.mm_base.specs.Spelling.{spells}
+use Rattle.mm_base.specs.MostBytes.{most_bytes}
 
 -- a byte may stand in a file
 abbrev pub is_legal : ℕ → Bool

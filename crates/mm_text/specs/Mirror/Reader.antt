@@ -6,18 +6,19 @@ use Rattle.std.specs.Prelude.{false, if◌then◌else◌, codes, drop, ◌&&◌,
 use Rattle.std.specs.Prelude.{option_map}
 use Rattle.std.specs.Option.{is_none}
 use Rattle.std.specs.List.{list_any}
-use Rattle.mm_text.specs.Items.{spells}
+use Rattle.mm_base.specs.Spelling.{spells}
 use Rattle.mm_text.specs.declared.fault.TextRule.{TextRule}
 use Rattle.mm_text.specs.declared.fault.TextRule.TheVariants.{X6, X8, S1, S2, S3, S4, S5, S6, S7}
 use Rattle.mm_text.specs.declared.scope.OpenBlock.{OpenBlock}
-use Rattle.mm_text.specs.declared.statement.Kind.{Kind}
-use Rattle.mm_text.specs.declared.statement.Kind.TheVariants.{Constants, Variables, Distinct}
-use Rattle.mm_text.specs.declared.statement.Kind.TheVariants.{Floating, Essential, Axiom, Provable}
-use Rattle.mm_text.specs.declared.statement.Kind.TheVariants.{Opening, Closing}
-use Rattle.mm_text.specs.Token.{PlainToken, is_label}
-use Rattle.mm_text.specs.Statement.{PlainStatement, keywords, is_provable}
+use Rattle.mm_base.specs.declared.statement.Kind.{Kind}
+use Rattle.mm_base.specs.declared.statement.Kind.TheVariants.{Constants, Variables, Distinct}
+use Rattle.mm_base.specs.declared.statement.Kind.TheVariants.{Floating, Essential, Axiom, Provable}
+use Rattle.mm_base.specs.declared.statement.Kind.TheVariants.{Opening, Closing}
+use Rattle.mm_base.specs.Token.{PlainToken, is_label}
+use Rattle.mm_base.specs.Statement.{PlainStatement, keywords, is_provable}
 use Rattle.mm_text.specs.Items.{Item, Plain, Wrong, Inclusion, End}
 use Rattle.mm_text.specs.Reading.{PlainFault}
+use Rattle.mm_base.specs.Begun.{bare_statement}
 
 -- the statement of which tokens were read: none yet, a label, its symbols so far, or its proof so
 -- far
@@ -37,11 +38,6 @@ pub data Step : Type 0 where
 
 abbrev pub is_keyword : List ℕ → Bool
 is_keyword text = list_any (spells text) keywords
-
--- a statement with no symbols yet
-abbrev pub bare_statement : Kind → PlainToken → Option PlainToken → PlainStatement
-bare_statement kind first label =
-    record { kind = kind; first = first; label = label; symbols = []; proof = []; span = (0, 0) }
 
 -- the token that begins a statement
 abbrev pub at_start : PlainToken → Step

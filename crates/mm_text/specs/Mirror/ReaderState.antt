@@ -8,8 +8,9 @@ use Rattle.mm_text.specs.declared.fault.TextFault.TheVariants.{Load, Fault, Memo
 use Rattle.mm_text.specs.declared.statements.State.{State}
 use Rattle.mm_text.specs.declared.statements.State.TheVariants.{Reading, Ended, Failed}
 use Rattle.mm_text.specs.declared.statements.Statements.TheInside.{Inside}
-use Rattle.mm_text.specs.Statement.{PlainStatement, HasForm}
-use Rattle.mm_text.specs.Files.{most_bytes, PlainFile, plain_file}
+use Rattle.mm_base.specs.Statement.{PlainStatement, HasForm}
+use Rattle.mm_base.specs.MostBytes.{most_bytes}
+use Rattle.mm_text.specs.Files.{PlainFile, plain_file}
 use Rattle.mm_text.specs.Items.{Item}
 use Rattle.mm_text.specs.Mirror.Reader.{PlainReading, PlainScope, Between, reading_of}
 use Rattle.mm_text.specs.Reading.{IsInPlace}

@@ -2,8 +2,8 @@
 -- the code, and is cited by private contracts alone.
 use Rattle.std.specs.Prelude.{◌≡◌, ℕ, ◌+◌, ◌<◌, List, ◌∷◌, Bool, true, false, Option, Some, None}
 use Rattle.std.specs.Prelude.{Result, Ok, Err, option_map, codes, reverse, if◌then◌else◌}
-use Rattle.mm_text.specs.Items.{spells}
-use Rattle.mm_text.specs.declared.token.Token.{Token}
+use Rattle.mm_base.specs.Spelling.{spells}
+use Rattle.mm_base.specs.declared.token.Token.{Token}
 use Rattle.mm_text.specs.declared.scope.Scope.{Scope}
 use Rattle.mm_text.specs.declared.class.Keyword.{Keyword}
 use Rattle.mm_text.specs.declared.class.Keyword.TheVariants as keyword
@@ -11,11 +11,11 @@ use Rattle.mm_text.specs.declared.class.Class.{Class}
 use Rattle.mm_text.specs.declared.fault.TextRule.{TextRule}
 use Rattle.mm_text.specs.declared.fault.TextFault.{TextFault}
 use Rattle.mm_text.specs.declared.fault.TextFault.TheVariants.{Load, Fault, Memory}
-use Rattle.mm_text.specs.declared.statement.Kind.{Kind}
-use Rattle.mm_text.specs.declared.statement.Kind.TheVariants as kind
+use Rattle.mm_base.specs.declared.statement.Kind.{Kind}
+use Rattle.mm_base.specs.declared.statement.Kind.TheVariants as kind
 use Rattle.mm_text.specs.Mirror.Class.{keyword_bytes}
-use Rattle.mm_text.specs.Token.{PlainToken, plain_token, HoldsNoDollar}
-use Rattle.mm_text.specs.Statement.{PlainStatement}
+use Rattle.mm_base.specs.Token.{PlainToken, plain_token, HoldsNoDollar}
+use Rattle.mm_base.specs.Statement.{PlainStatement}
 use Rattle.mm_text.specs.Items.{Item, Plain}
 use Rattle.mm_text.specs.Mirror.Next.{items_with, IsOfClass}
 use Rattle.mm_text.specs.Reading.{PlainFault, TellsMore}
@@ -23,9 +23,9 @@ use Rattle.mm_text.specs.Mirror.Reader.{PlainReading, PlainScope, Part, Between,
 use Rattle.mm_text.specs.Mirror.Reader.{part_first, part_label, fault_in, has_none}
 use Rattle.mm_text.specs.Mirror.Reader.{scope_after_statement, scope_after_opening}
 use Rattle.mm_text.specs.Mirror.Reader.{scope_after_closing, reading_of}
-use Rattle.mm_text.specs.Statement.{is_provable}
+use Rattle.mm_base.specs.Statement.{is_provable}
 use Rattle.mm_text.specs.Mirror.Reader.{only_ending, with_statement}
-use Rattle.mm_text.specs.Files.{most_bytes}
+use Rattle.mm_base.specs.MostBytes.{most_bytes}
 
 -- what its keyword, or that it is none, tells of a token
 abbrev pub IsSign : PlainToken → Option Keyword → Type 0

@@ -3,8 +3,8 @@ use Rattle.std.proofs.Common.{◌≡◌, ℕ, List, take, slice_get, true, not, 
 use Rattle.std.proofs.Common.{subst, ◌∙◌, ◌+◌, ◌-◌, ◌<◌, ◌≤◌, ◌↔◌, ◌++◌, map}
 use Rattle.std.proofs.Common.{length, slice_set, slice_index_or, Option, None, Result, Ok, inl, inr}
 use Rattle.std.proofs.Common.{arith, length-append, []}
-use Rattle.mm_text.specs.declared.statement.Kind.TheVariants.{Axiom, Provable}
-use Rattle.mm_text.specs.Statement.{PlainStatement, is_provable}
+use Rattle.mm_base.specs.declared.statement.Kind.TheVariants.{Axiom, Provable}
+use Rattle.mm_base.specs.Statement.{PlainStatement, is_provable}
 use Rattle.mm_frame.specs.Sentence.{Sentence, sentence_of, IsLabelled}
 use Rattle.mm_frame.specs.Numbers.{IsNumbered}
 use Rattle.mm_step.specs.Tree.{Trees, none, tree}
@@ -21,13 +21,14 @@ use Rattle.mm_rules.proofs.Numbers.{in_order_same}
 use Rattle.std.proofs.lemmas.List.Sums.{get_or-le-sum_by, sum_by-set}
 use Rattle.std.proofs.lemmas.List.{length-map, length-set, set-set, set-get_or}
 use Rattle.std.proofs.lemmas.Option.{slice_get_within, get_or_from_slice_get}
-use Rattle.mm_text.specs.declared.file.File.{File}
-use Rattle.mm_text.specs.Files.{most_bytes, PlainFile, plain_file, total_bytes, BreaksLoad}
+use Rattle.mm_base.specs.declared.file.File.{File}
+use Rattle.mm_base.specs.MostBytes.{most_bytes}
+use Rattle.mm_text.specs.Files.{PlainFile, plain_file, total_bytes, BreaksLoad}
 use Rattle.mm_text.specs.Reading.{Reads, IsInPlace}
 use Rattle.mm_text.specs.Replaced.{with_bytes, IsProofSpan}
 use Rattle.mm_text.proofs.Reader.WholeReadings.{readings_are_formed_in_place}
-use Rattle.mm_text.proofs.Lists.{all_at}
-use Rattle.mm_text.proofs.Lists.{get_set_cases}
+use Rattle.mm_base.proofs.Lists.{all_at}
+use Rattle.mm_base.proofs.Lists.{get_set_cases}
 use Rattle.mm_text.proofs.Inclusions.OpenFiles.{file_there}
 use Rattle.mm_frame.specs.Rules.{AllMeant}
 use Rattle.mm_step.specs.declared.profile.Profile.{Profile}
@@ -42,7 +43,7 @@ use Rattle.mm_verdict.proofs.Verdicts.AcceptedStatements.{one_stands, same_readi
 use Rattle.mm_verdict.proofs.Verdicts.StatementByStatement.{all_meant, provable_kind}
 use Rattle.mm_frame.proofs.Rules.ObeyedRules.{allmeant_prefix}
 use Rattle.mm_text.specs.declared.fault.LoadRule.{LoadRule}
-use Rattle.mm_text.specs.Token.{tokens_from}
+use Rattle.mm_base.specs.Token.{tokens_from}
 use Rattle.mm_text.proofs.Replaced.ReplacedItems.{set_there}
 use Rattle.mm_proof.specs.Strict.{IsStrict, HasFormOf}
 use Rattle.mm_proof.specs.UnderProfile.{IsProvedUnder}

@@ -6,15 +6,15 @@ use Rattle.std.proofs.Common.{Result, Ok, Err, IfErr, ◌⊎◌}
 use Rattle.std.specs.List.{AllByRecursion}
 use Rattle.std.proofs.lemmas.Bool.{cases_lt}
 use Rattle.std.proofs.lemmas.List.{take-map}
-use Rattle.mm_text.specs.declared.statement.Kind.{Kind}
-use Rattle.mm_text.specs.declared.statement.Kind.TheVariants.{Axiom, Provable}
-use Rattle.mm_text.specs.Statement.{PlainStatement, is_provable}
+use Rattle.mm_base.specs.declared.statement.Kind.{Kind}
+use Rattle.mm_base.specs.declared.statement.Kind.TheVariants.{Axiom, Provable}
+use Rattle.mm_base.specs.Statement.{PlainStatement, is_provable}
 use Rattle.mm_frame.specs.declared.number.LabelKind.{LabelKind}
 use Rattle.mm_frame.specs.Taken.{kind_behind}
 use Rattle.mm_frame.specs.Sentence.{Sentence, IsHypothesis, sentence_of, IsLabelled}
 use Rattle.mm_frame.specs.Rules.{AllMeant}
 use Rattle.mm_frame.specs.Numbers.{labelled_sentences, IsNumbered}
-use Rattle.mm_text.proofs.Lists.{at_from_contains, contains_from_at, all_at}
+use Rattle.mm_base.proofs.Lists.{at_from_contains, contains_from_at, all_at}
 use Rattle.mm_frame.proofs.Names.LabelNumbers.{numbered_get, numbered_some, numbered_unique}
 use Rattle.mm_frame.proofs.Names.LabelNumbers.{numbered_within}
 use Rattle.mm_frame.proofs.Rules.ObeyedRules.{allmeant_prefix}

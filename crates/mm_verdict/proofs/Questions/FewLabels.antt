@@ -7,7 +7,7 @@ use Rattle.mm_frame.specs.Sentence.{Sentence}
 use Rattle.std.proofs.Common.{Option, None, count_by, is_some}
 use Rattle.std.proofs.lemmas.List.{length-map}
 use Rattle.std.proofs.lemmas.List.Sums.{length-filter, count_by-le-length}
-use Rattle.mm_text.specs.Statement.{PlainStatement}
+use Rattle.mm_base.specs.Statement.{PlainStatement}
 use Rattle.mm_text.specs.Files.{PlainFile}
 use Rattle.mm_text.proofs.Reader.WholeReadings.{readings_few}
 use Rattle.mm_frame.specs.Sentence.{sentence_of}

@@ -5,9 +5,9 @@ use Rattle.std.proofs.Common.{append_assoc, append-nil, length-append}
 use Rattle.std.specs.List.{sum_by}
 use Rattle.std.proofs.lemmas.List.{map-append, take-append-drop}
 use Rattle.std.proofs.lemmas.List.Sums.{sum_by-append}
-use Rattle.mm_text.specs.Token.{PlainToken, is_space, tokens_from}
-use Rattle.mm_text.proofs.Tokens.WordsAndComments.{tokens_from-nil, tokens_from-space}
-use Rattle.mm_text.proofs.Tokens.WordsAndComments.{tokens_from-run, BeginsWithSpace}
+use Rattle.mm_base.specs.Token.{PlainToken, is_space, tokens_from}
+use Rattle.mm_base.proofs.TokensFrom.{tokens_from-nil, tokens_from-space}
+use Rattle.mm_base.proofs.TokensFrom.{tokens_from-run, BeginsWithSpace}
 use Rattle.mm_code.specs.Words.{texts_of, LacksWhiteSpace}
 use Rattle.mm_verdict.specs.Mirror.Comparisons.{ArePrefixTokens}
 

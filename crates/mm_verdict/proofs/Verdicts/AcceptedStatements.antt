@@ -7,10 +7,11 @@ use Rattle.std.proofs.Common.{Some, None, Result, Ok, Err, IsErrAnd}
 use Rattle.std.proofs.lemmas.Bool.{cases_lt}
 use Rattle.std.proofs.lemmas.List.Sums.{sum_by-append, sum_by-cons}
 use Rattle.mm_text.specs.declared.fault.LoadRule.TheVariants.{F1, F2, F3}
-use Rattle.mm_text.specs.declared.statement.Kind.{Kind}
-use Rattle.mm_text.specs.declared.statement.Kind.TheVariants.{Closing}
-use Rattle.mm_text.specs.Statement.{PlainStatement, bytes_in}
-use Rattle.mm_text.specs.Files.{most_bytes, PlainFile, total_bytes}
+use Rattle.mm_base.specs.declared.statement.Kind.{Kind}
+use Rattle.mm_base.specs.declared.statement.Kind.TheVariants.{Closing}
+use Rattle.mm_base.specs.Statement.{PlainStatement, bytes_in}
+use Rattle.mm_base.specs.MostBytes.{most_bytes}
+use Rattle.mm_text.specs.Files.{PlainFile, total_bytes}
 use Rattle.mm_text.specs.Remaining.{Remaining}
 use Rattle.mm_text.proofs.Reader.WholeReadings.{readings_are_balanced, readings_fit, readings_few}
 use Rattle.mm_text.proofs.Reader.WholeReadings.{each_has_one_reading}
@@ -21,9 +22,9 @@ use Rattle.mm_rules.specs.Verdict.{CanBeRead, sentences, AllObey, AreAccepted, p
 use Rattle.mm_rules.specs.Verdict.{Verdict, HasVerdict, labels_of, unproved_of, proofs_of}
 use Rattle.mm_verdict.specs.Mirror.Judged.{IsRead, TakesNext, IsAtEnd}
 use Rattle.mm_rules.proofs.Numbers.{count_by-one, names_at, numbers_within}
-use Rattle.mm_text.specs.Token.{PlainToken}
+use Rattle.mm_base.specs.Token.{PlainToken}
 use Rattle.mm_text.specs.Reading.{PlainFault, Reads}
-use Rattle.mm_text.proofs.Lists.{split_at}
+use Rattle.mm_base.proofs.Lists.{split_at}
 use Rattle.mm_frame.specs.Rules.{AllMeant}
 use Rattle.mm_frame.proofs.Rules.ObeyedRules.{one_label}
 use Rattle.mm_frame.proofs.Names.NameNumbers.{get_mapped}
@@ -45,7 +46,7 @@ use Rattle.mm_rules.proofs.Judgements.CompleteProofs.{unproved_there}
 use Rattle.mm_verdict.proofs.Verdicts.StatementByStatement.{ids, labels_said}
 use Rattle.mm_verdict.proofs.Verdicts.StatementByStatement.{names_of_ids}
 use Rattle.mm_rules.specs.declared.fault.CheckFault.{CheckFault}
-use Rattle.mm_text.specs.Blocks as text
+use Rattle.mm_base.specs.Blocks as text
 use Rattle.mm_frame.specs.Active as frame
 
 -- ==== what the next statement may ask of the progress: a block to close, and room

@@ -3,10 +3,10 @@
 use Rattle.std.proofs.Common.{◌≡◌, ℕ, List, [], ◌∷◌, ◌++◌, length, Option, Some, None, ◌⊎◌, inl}
 use Rattle.std.proofs.Common.{inr, refl, ap, append_assoc, append-nil}
 use Rattle.std.specs.List.{AllByRecursion}
-use Rattle.mm_text.specs.Statement.{PlainStatement, HasForm}
+use Rattle.mm_base.specs.Statement.{PlainStatement, HasForm}
 use Rattle.mm_text.specs.Files.{PlainFile}
 use Rattle.mm_text.specs.Reading.{PlainFault}
-use Rattle.mm_text.proofs.Lists.{all_prefix}
+use Rattle.mm_base.proofs.Lists.{all_prefix}
 use Rattle.mm_frame.specs.Sentence.{sentence_of}
 use Rattle.mm_frame.specs.Rules.{AllMeant, IsMeant}
 use Rattle.mm_frame.specs.Form.{AllFormed}

@@ -5,11 +5,12 @@ use Rattle.std.proofs.Common.{slice_get, Bool, true, false, Option, Some, None, 
 use Rattle.std.proofs.Common.{sym, subst, arith, append_assoc, append-nil, not, ap, ◌∙◌}
 use Rattle.std.specs.List.{AllByRecursion}
 use Rattle.mm_text.specs.declared.fault.LoadRule.{LoadRule}
-use Rattle.mm_text.specs.Statement.{PlainStatement, HasForm}
-use Rattle.mm_text.specs.Files.{most_bytes, PlainFile, BreaksLoad, HasTwins, total_bytes}
+use Rattle.mm_base.specs.Statement.{PlainStatement, HasForm}
+use Rattle.mm_base.specs.MostBytes.{most_bytes}
+use Rattle.mm_text.specs.Files.{PlainFile, BreaksLoad, HasTwins, total_bytes}
 use Rattle.mm_text.specs.Reading.{PlainFault, Reads}
 use Rattle.mm_text.proofs.Reader.WholeReadings.{each_has_one_reading, readings_are_formed_in_place}
-use Rattle.mm_text.proofs.Lists.{all_prefix, two_cuts}
+use Rattle.mm_base.proofs.Lists.{all_prefix, two_cuts}
 use Rattle.mm_frame.specs.Sentence.{sentence_of, Sentence}
 use Rattle.mm_frame.specs.Rules.{AllMeant, IsMeant, FirstBroken, rank}
 use Rattle.mm_frame.specs.Form.{IsFormedSentence, AllFormed}

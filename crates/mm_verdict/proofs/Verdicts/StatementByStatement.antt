@@ -7,11 +7,11 @@ use Rattle.std.proofs.Common.{Option, Some, length-append}
 use Rattle.std.proofs.lemmas.Option.{slice_get_within}
 use Rattle.std.proofs.lemmas.List.{map-append, length-map, take-append-le, take-map}
 use Rattle.std.proofs.Math.Seq.{take-append_seam}
-use Rattle.mm_text.specs.Statement.{PlainStatement, HasForm, HasLabel, bytes_in, is_provable}
+use Rattle.mm_base.specs.Statement.{PlainStatement, HasForm, HasLabel, bytes_in, is_provable}
 use Rattle.mm_frame.specs.Sentence.{Sentence, sentence_of}
 use Rattle.mm_frame.specs.Numbers.{labelled_sentences}
-use Rattle.mm_text.proofs.Lists.{get_kept, get_pushed, pushed_cases, all_back, last_cut, get_parted}
-use Rattle.mm_text.proofs.Lists.{split_at}
+use Rattle.mm_base.proofs.Lists.{get_kept, get_pushed, pushed_cases, all_back, last_cut, get_parted}
+use Rattle.mm_base.proofs.Lists.{split_at}
 use Rattle.mm_frame.proofs.Names.LabelNumbers.{numbered_grow, numbered_fall, numbered_last}
 use Rattle.mm_frame.proofs.Names.LabelNumbers.{numbered_within}
 use Rattle.mm_step.specs.Tree.{Trees, none, tree}
@@ -36,9 +36,9 @@ use Rattle.std.proofs.lemmas.Grind.{flat_map-append}
 use Rattle.std.specs.List.{flat_map, AllByRecursion}
 use Rattle.std.specs.Option.{option_to_list, option_map}
 use Rattle.std.proofs.lemmas.Bool.{and_parts}
-use Rattle.mm_text.specs.declared.statement.Kind.{Kind}
-use Rattle.mm_text.specs.declared.statement.Kind.TheVariants.{Provable}
-use Rattle.mm_text.specs.Token.{PlainToken}
+use Rattle.mm_base.specs.declared.statement.Kind.{Kind}
+use Rattle.mm_base.specs.declared.statement.Kind.TheVariants.{Provable}
+use Rattle.mm_base.specs.Token.{PlainToken}
 use Rattle.mm_frame.specs.declared.number.LabelId.{LabelId}
 use Rattle.mm_frame.proofs.Blocks.NumberedBlocks.{count_append}
 use Rattle.mm_proof.specs.Tokens.{is_incomplete}

@@ -3,7 +3,7 @@
 use Rattle.std.specs.Prelude.{◌≡◌, ◌⊎◌, ℕ, ◌+◌, ◌-◌, ◌≤◌, List, ◌++◌}
 use Rattle.std.specs.Prelude.{length}
 use Rattle.std.specs.List.{sum_by}
-use Rattle.mm_text.specs.Token.{PlainToken, tokens_from}
+use Rattle.mm_base.specs.Token.{PlainToken, tokens_from}
 use Rattle.mm_code.specs.Words.{texts_of}
 use Rattle.mm_rules.specs.declared.rule.Rule.{Rule}
 use Rattle.mm_rules.specs.declared.ask.AskFault.{AskFault}

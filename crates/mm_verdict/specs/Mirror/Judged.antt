@@ -4,7 +4,7 @@ use Rattle.std.specs.Prelude.{◌≡◌, ◌≤◌, List, [], ◌∷◌, ◌++�
 use Rattle.std.specs.Prelude.{slice_get, Bool, true, false, Option, Some, None}
 use Rattle.std.specs.Prelude.{◌⊎◌}
 use Rattle.mm_text.specs.declared.fault.LoadRule.{LoadRule}
-use Rattle.mm_text.specs.Statement.{PlainStatement, HasForm, bytes_in}
+use Rattle.mm_base.specs.Statement.{PlainStatement, HasForm, bytes_in}
 use Rattle.mm_text.specs.Files.{PlainFile, BreaksLoad}
 use Rattle.mm_text.specs.Reading.{PlainFault, Reads}
 use Rattle.mm_text.specs.Remaining.{Remaining}

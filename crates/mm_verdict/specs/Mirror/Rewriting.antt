@@ -1,7 +1,7 @@
 -- What the code knows on its way to a file with a proof written anew. This file mirrors the code,
 -- and is cited by private contracts alone.
 use Rattle.std.specs.Prelude.{◌≡◌, ℕ, List}
-use Rattle.mm_text.specs.Statement.{PlainStatement}
+use Rattle.mm_base.specs.Statement.{PlainStatement}
 use Rattle.mm_rules.specs.Shown.{Stands}
 
 -- the file and the span are those of the proof of the statement with the label

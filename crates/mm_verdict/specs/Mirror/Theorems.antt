@@ -1,7 +1,7 @@
 -- What the code knows of a theorem that it reads again. This file mirrors the code, and is cited by
 -- private contracts alone.
 use Rattle.std.specs.Prelude.{◌≡◌, ℕ, List, take, slice_get, true, Some, None}
-use Rattle.mm_text.specs.Statement.{PlainStatement}
+use Rattle.mm_base.specs.Statement.{PlainStatement}
 use Rattle.mm_text.specs.Remaining.{Remaining}
 use Rattle.mm_frame.specs.Sentence.{Sentence, sentence_of, IsLabelled}
 use Rattle.mm_step.specs.Moves.{Move}

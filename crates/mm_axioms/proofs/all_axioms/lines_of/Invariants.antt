@@ -1,6 +1,6 @@
 -- The lines of the theorems so far.
 use Rattle.std.proofs.Common.{List, None, map, take}
-use Rattle.mm_text.specs.Statement.{PlainStatement}
+use Rattle.mm_base.specs.Statement.{PlainStatement}
 use Rattle.mm_text.specs.Reading.{Reads}
 use Rattle.mm_axioms.specs.Mirror.Tables.{AreLinesOf}
 use Rattle.mm_axioms.proofs.all_axioms.lines_of.Given as goal

@@ -3,8 +3,8 @@ use Rattle.std.proofs.Common.{◌≡◌, ℕ, ◌<◌, List, length, Contains, a
 use Rattle.mm_rules.specs.Conclusion.{Conclusion, labels_in}
 use Rattle.mm_rules.specs.Answer.{IsKeptOf}
 use Rattle.mm_step.specs.Plain.{ids_in}
-use Rattle.mm_text.proofs.Lists.{error_keeps}
-use Rattle.mm_text.proofs.Lists.{all_within}
+use Rattle.mm_base.proofs.Lists.{error_keeps}
+use Rattle.mm_base.proofs.Lists.{all_within}
 use Rattle.mm_verdict.proofs.Verdicts.AcceptedStatements.{read_statements, KeptWell}
 use Rattle.mm_verdict.proofs.Questions.AskedTheorems.{report_of, all_among, axiom_within}
 use Rattle.mm_axioms.proofs.asked_axioms.axioms.Goals as goal

@@ -1,6 +1,6 @@
 -- The numbers are those of the users, as the statements of the files tell them.
 use Rattle.std.proofs.Common.{◌≡◌, false, sym, ap, subst, ◌∙◌}
-use Rattle.mm_text.proofs.Lists.{error_keeps}
+use Rattle.mm_base.proofs.Lists.{error_keeps}
 use Rattle.mm_rules.specs.Conclusion.{Conclusion, labels_in}
 use Rattle.mm_rules.specs.Answer.{IsKeptOf}
 use Rattle.mm_verdict.proofs.Verdicts.AcceptedStatements.{read_statements, KeptWell}

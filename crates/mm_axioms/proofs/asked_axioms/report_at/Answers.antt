@@ -7,7 +7,7 @@ use Rattle.mm_verdict.proofs.Verdicts.AcceptedStatements.{read_statements, KeptW
 use Rattle.mm_verdict.proofs.Verdicts.StatementByStatement.{all_meant}
 use Rattle.mm_verdict.proofs.Questions.AskedTheorems.{all_among, axiom_within}
 use Rattle.mm_axioms.proofs.Resting.AllReports.{unproved_at, report_told, reached_within}
-use Rattle.mm_text.proofs.Lists.{contains_from_at}
+use Rattle.mm_base.proofs.Lists.{contains_from_at}
 use Rattle.mm_frame.specs.Rules.{AllMeant}
 use Rattle.mm_axioms.proofs.asked_axioms.report_at.Goals as goal
 

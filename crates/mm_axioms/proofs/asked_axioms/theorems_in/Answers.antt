@@ -1,9 +1,9 @@
 -- Labels are few, and the `$p` are those of the statements.
 use Rattle.std.proofs.Common.{◌≡◌, ℕ, ◌<◌, List, length, sym, ap, subst, ◌∙◌}
-use Rattle.mm_text.proofs.Lists.{all_within}
+use Rattle.mm_base.proofs.Lists.{all_within}
 use Rattle.mm_frame.specs.Numbers.{labelled_sentences}
 use Rattle.mm_frame.specs.Sentence.{Sentence}
-use Rattle.mm_text.specs.declared.statement.Kind.TheVariants.{Provable}
+use Rattle.mm_base.specs.declared.statement.Kind.TheVariants.{Provable}
 use Rattle.mm_step.specs.Plain.{ids_in}
 use Rattle.mm_rules.specs.Conclusion.{Conclusion, labels_in}
 use Rattle.mm_rules.specs.Answer.{IsKeptOf}

@@ -3,7 +3,7 @@ use Rattle.std.proofs.Common.{◌<◌, List, map, length, get_or, sym, subst}
 use Rattle.std.proofs.lemmas.Option.{slice_get-get_or}
 use Rattle.mm_frame.specs.declared.number.LabelId.{LabelId}
 use Rattle.mm_frame.proofs.Names.NameNumbers.{get_mapped}
-use Rattle.mm_text.proofs.Lists.{contains_from_at}
+use Rattle.mm_base.proofs.Lists.{contains_from_at}
 use Rattle.mm_axioms.proofs.Resting.RestsOn.{marked_next}
 use Rattle.mm_axioms.proofs.report.mark.Goals as goal
 

@@ -2,7 +2,7 @@
 use Rattle.std.proofs.Common.{◌≡◌, ◌↔◌, ℕ, suc, ◌+◌, ◌-◌, ◌<◌, ◌≤◌, ◌⊎◌, inl, inr, List, map, length, slice_get, Contains, Bool, Some, sym, subst, ◌∙◌, arith}
 use Rattle.std.proofs.lemmas.List.{with_items_is}
 use Rattle.mm_frame.specs.declared.number.LabelId.{LabelId}
-use Rattle.mm_text.proofs.Lists.{get_within, contains_from_at}
+use Rattle.mm_base.proofs.Lists.{get_within, contains_from_at}
 use Rattle.mm_rules.specs.Conclusion.{ProofUses}
 use Rattle.mm_rules.specs.Mirror.Marks.{IsMarked}
 use Rattle.mm_axioms.proofs.Resting.RestsOn.{IsMarkedBy, marked_as, marked_within, marking_starts}

@@ -1,7 +1,7 @@
 -- The number stands once.
 use Rattle.std.proofs.Common.{◌≡◌, ℕ, List, map, true, sym, subst, ◌∙◌}
 use Rattle.mm_frame.specs.declared.number.LabelId.{LabelId}
-use Rattle.mm_text.proofs.Lists.{contains_from_at}
+use Rattle.mm_base.proofs.Lists.{contains_from_at}
 use Rattle.mm_axioms.specs.Mirror.Bits.{has_bit}
 use Rattle.mm_rules.proofs.RisingNumbers.{rising_once}
 use Rattle.mm_axioms.proofs.rows.is_entered.Goals as goal

@@ -3,7 +3,7 @@ use Rattle.std.proofs.Common.{◌≡◌, ◌≤◌, ◌+◌, ◌/◌, ℕ, List,
 use Rattle.std.proofs.lemmas.List.{length-map}
 use Rattle.mm_frame.specs.declared.number.LabelId.{LabelId}
 use Rattle.mm_step.specs.Plain.{ids_in}
-use Rattle.mm_text.proofs.Lists.{get_within}
+use Rattle.mm_base.proofs.Lists.{get_within}
 use Rattle.mm_rules.specs.Conclusion.{ProofUses}
 use Rattle.mm_axioms.proofs.Resting.SettledTheorems.{rows_start, rows_more, rows_ended, reaches_as}
 use Rattle.mm_axioms.proofs.rows.rows_of.Goals as goal

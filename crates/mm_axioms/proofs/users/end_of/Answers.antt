@@ -1,6 +1,6 @@
 -- The last number is the greatest.
 use Rattle.std.proofs.Common.{ℕ, ◌-◌, ◌<◌, List, length, arith}
-use Rattle.mm_text.proofs.Lists.{get_within}
+use Rattle.mm_base.proofs.Lists.{get_within}
 use Rattle.mm_rules.specs.Conclusion.{ProofUses}
 use Rattle.mm_axioms.proofs.Resting.UsersOf.{below_end}
 use Rattle.mm_axioms.proofs.users.end_of.Goals as goal

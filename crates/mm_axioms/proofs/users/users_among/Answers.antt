@@ -1,6 +1,6 @@
 -- One more proof was looked at: its theorem is taken or passed over.
 use Rattle.std.proofs.Common.{◌<◌, ℕ, List, length, arith}
-use Rattle.mm_text.proofs.Lists.{get_within}
+use Rattle.mm_base.proofs.Lists.{get_within}
 use Rattle.mm_rules.specs.Conclusion.{ProofUses}
 use Rattle.mm_rules.proofs.KeptNumbers.LabelsAmong.{any_among}
 use Rattle.mm_axioms.proofs.Resting.UsersOf.{user_taken, user_passed, users_ended}

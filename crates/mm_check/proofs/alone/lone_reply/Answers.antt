@@ -1,7 +1,7 @@
 -- The answer is about the theorem that was reached.
 use Rattle.std.proofs.Common.{inr}
 use Rattle.std.proofs.lemmas.Result.{IfOk-weaker}
-use Rattle.mm_text.specs.Statement.{plain_statement}
+use Rattle.mm_base.specs.Statement.{plain_statement}
 use Rattle.mm_check.proofs.alone.lone_reply.Goals as goal
 
 pub returns-in-Ok : goal.returns-in-Ok

@@ -2,7 +2,7 @@
 use Rattle.std.proofs.Common.{ℕ, List, length, map, ap, ◌∙◌, ◌++◌, ◌≡◌, subst}
 use Rattle.mm_code.specs.Layout.{texts}
 use Rattle.mm_text.specs.Files.{plain_file, PlainFile}
-use Rattle.mm_text.specs.Statement.{plain_statement, PlainStatement}
+use Rattle.mm_base.specs.Statement.{plain_statement, PlainStatement}
 use Rattle.mm_frame.specs.Sentence.{Sentence, sentence_of}
 use Rattle.mm_step.specs.declared.profile.Profile.TheVariants.{Lenient}
 use Rattle.mm_rules.specs.declared.rule.Rule.TheVariants as rules

@@ -2,7 +2,7 @@
 use Rattle.std.proofs.Common.{length, map, inr}
 use Rattle.std.proofs.lemmas.Result.{IfOk-weaker}
 use Rattle.mm_text.specs.Files.{plain_file}
-use Rattle.mm_text.specs.Statement.{plain_statement}
+use Rattle.mm_base.specs.Statement.{plain_statement}
 use Rattle.mm_frame.specs.Sentence.{sentence_of}
 use Rattle.mm_explain.proofs.LoneProofs.LoneTheorems.{reached_fits, reached_number}
 use Rattle.mm_check.proofs.known.known_reply.Goals as goal

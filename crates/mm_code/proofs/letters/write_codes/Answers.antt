@@ -6,7 +6,7 @@ use Rattle.mm_code.specs.declared.code.Code.{Code}
 use Rattle.mm_code.specs.Letters.{SaysCode, SpellsCodes, Letters, code_for}
 use Rattle.mm_code.specs.Mirror.Writing.{AppendsCode}
 use Rattle.mm_code.proofs.OneSpelling.{exact_codes, one_text_only}
-use Rattle.mm_text.proofs.Lists.{zip_push}
+use Rattle.mm_base.proofs.Lists.{zip_push}
 use Rattle.mm_code.proofs.letters.write_codes.Goals as goal
 
 -- one more code's letters

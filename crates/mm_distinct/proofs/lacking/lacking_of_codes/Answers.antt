@@ -1,5 +1,5 @@
 use Rattle.std.proofs.Common.{rules, List, refl, subst}
-use Rattle.mm_text.proofs.Lists.{all_at}
+use Rattle.mm_base.proofs.Lists.{all_at}
 use Rattle.mm_frame.specs.declared.number.Sym.{Sym}
 use Rattle.mm_step.specs.Mirror.CodeAsked.{number_pairs}
 use Rattle.mm_proof.specs.Mirror.CodeSteps.{code_moves}

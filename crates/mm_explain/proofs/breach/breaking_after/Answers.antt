@@ -3,8 +3,8 @@ use Rattle.std.proofs.Common.{◌≡◌, Option, ℕ, map, ap, arith}
 use Rattle.std.proofs.lemmas.List.{length-map}
 use Rattle.std.proofs.lemmas.Result.{IfOk-weaker}
 use Rattle.mm_text.specs.Files.{plain_file}
-use Rattle.mm_text.specs.Statement.{plain_statement}
-use Rattle.mm_text.specs.Token.{plain_token}
+use Rattle.mm_base.specs.Statement.{plain_statement}
+use Rattle.mm_base.specs.Token.{plain_token}
 use Rattle.mm_frame.specs.Breaking.{BreaksAt}
 use Rattle.mm_frame.specs.Sentence.{sentence_of}
 use Rattle.mm_frame.proofs.BookLists.Declarations.{bytes_enough}

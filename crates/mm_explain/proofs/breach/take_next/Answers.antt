@@ -1,7 +1,7 @@
 -- The next statement is taken, since it breaks no rule of meaning.
 use Rattle.std.proofs.Common.{map, arith}
 use Rattle.mm_text.specs.Files.{plain_file}
-use Rattle.mm_text.specs.Statement.{plain_statement}
+use Rattle.mm_base.specs.Statement.{plain_statement}
 use Rattle.mm_verdict.specs.Mirror.Judged.{IsRead}
 use Rattle.mm_explain.proofs.Breaches.{read_more}
 use Rattle.mm_verdict.proofs.Verdicts.AcceptedStatements.{closes, has_room, few}

@@ -1,7 +1,7 @@
 -- The statements before the site, one after the other, and the last of the blocks.
 use Rattle.std.proofs.Common.{◌≡◌, ℕ, length, map, subst, arith}
 use Rattle.mm_text.specs.Files.{plain_file}
-use Rattle.mm_text.specs.Statement.{plain_statement}
+use Rattle.mm_base.specs.Statement.{plain_statement}
 use Rattle.mm_explain.proofs.Breaches.{some_left}
 use Rattle.mm_explain.proofs.InnermostBlocks.{HasBlocks, empty_list, has_more, has_none, last_block}
 use Rattle.mm_explain.proofs.InnermostBlocks.{some_block}

@@ -1,6 +1,6 @@
 -- The breach is that of the statement at which the files are refused.
 use Rattle.std.proofs.Common.{◌≡◌, ◌+◌, ◌-◌, List, ℕ, ◌∷◌, ◌++◌, refl, sym, ap, ◌∙◌, arith}
-use Rattle.mm_text.specs.Token.{PlainToken, plain_token}
+use Rattle.mm_base.specs.Token.{PlainToken, plain_token}
 use Rattle.mm_facts.specs.Explained.{Detail, detail_text, details_text, token_at_fault}
 use Rattle.mm_rules.specs.declared.rule.Rule.TheVariants as rules
 use Rattle.mm_explain.proofs.Collisions.{facts_told, stop_broken, stop_count}

@@ -2,7 +2,7 @@
 use Rattle.std.proofs.Common.{List, [], ◌∷◌, map, sym, ap, subst, append-nil}
 use Rattle.std.proofs.lemmas.Result.{on_ok_weaker}
 use Rattle.mm_text.specs.Files.{PlainFile, plain_file}
-use Rattle.mm_text.specs.Token.{plain_token}
+use Rattle.mm_base.specs.Token.{plain_token}
 use Rattle.mm_frame.specs.declared.rule.MeaningRule.{MeaningRule}
 use Rattle.mm_facts.specs.Explained.{Detail, block_opened}
 use Rattle.mm_explain.specs.MeaningFacts.{AreEarlierFacts, met_facts}

@@ -1,7 +1,7 @@
 -- One token more, or all of them.
 use Rattle.std.proofs.Common.{◌≡◌, List, map, option_map, subst, take_all}
-use Rattle.mm_text.specs.declared.token.Token.{Token}
-use Rattle.mm_text.specs.Token.{plain_token}
+use Rattle.mm_base.specs.declared.token.Token.{Token}
+use Rattle.mm_base.specs.Token.{plain_token}
 use Rattle.mm_explain.specs.MeaningFacts.{last_met, mentions}
 use Rattle.mm_explain.proofs.NamesMet.{met_more}
 use Rattle.mm_explain.proofs.earlier.last_among.Goals as goal

@@ -1,6 +1,6 @@
 -- It is the last of those before the index.
 use Rattle.std.proofs.Common.{◌≡◌, map, take, option_map}
-use Rattle.mm_text.specs.Token.{plain_token}
+use Rattle.mm_base.specs.Token.{plain_token}
 use Rattle.mm_explain.specs.MeaningFacts.{last_met, mentions}
 use Rattle.mm_explain.proofs.earlier.last_among.Given as goal
 

@@ -1,7 +1,7 @@
 -- So many statements were read, and it is the last of them.
 use Rattle.std.proofs.Common.{map, option_map}
 use Rattle.mm_text.specs.Files.{plain_file}
-use Rattle.mm_text.specs.Token.{plain_token}
+use Rattle.mm_base.specs.Token.{plain_token}
 use Rattle.mm_explain.specs.Mirror.Breaches.{HasMet}
 use Rattle.mm_explain.proofs.earlier.last_before.Given as goal
 

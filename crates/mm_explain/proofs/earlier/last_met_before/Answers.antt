@@ -1,9 +1,9 @@
 -- What was found in the statement itself, or before it.
 use Rattle.std.proofs.Common.{◌≡◌, Option, Some, None, option_map, map, refl}
 use Rattle.std.proofs.lemmas.Result.{IfOk-weaker}
-use Rattle.mm_text.specs.declared.token.Token.{Token}
+use Rattle.mm_base.specs.declared.token.Token.{Token}
 use Rattle.mm_text.specs.Files.{plain_file}
-use Rattle.mm_text.specs.Token.{plain_token}
+use Rattle.mm_base.specs.Token.{plain_token}
 use Rattle.mm_explain.specs.MeaningFacts.{last_looked_at, token_at}
 use Rattle.mm_explain.specs.Mirror.Breaches.{Site}
 use Rattle.mm_explain.proofs.Collisions.{met_for}

@@ -1,7 +1,7 @@
 -- The symbols before the index, as their tokens spell them.
 use Rattle.std.proofs.Common.{◌≡◌, take, ap, ◌∙◌}
 use Rattle.std.proofs.lemmas.List.{take-map}
-use Rattle.mm_text.specs.Token.{plain_token}
+use Rattle.mm_base.specs.Token.{plain_token}
 use Rattle.mm_explain.proofs.earlier.last_symbol_before.Goals as goal
 
 pub returns-in-Some : goal.returns-in-Some

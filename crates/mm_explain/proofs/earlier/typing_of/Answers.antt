@@ -1,6 +1,6 @@
 -- What was found behind the type code.
 use Rattle.std.proofs.Common.{Some, None, drop, ap, sym, ◌∙◌}
-use Rattle.mm_text.specs.Token.{plain_token}
+use Rattle.mm_base.specs.Token.{plain_token}
 use Rattle.mm_explain.proofs.NamesMet.{typed_found}
 use Rattle.mm_explain.proofs.earlier.typing_of.Goals as goal
 

@@ -1,7 +1,7 @@
 -- The label is the first that is it, or not it.
 use Rattle.std.proofs.Common.{sym, ap, ◌∙◌}
 use Rattle.std.specs.Prelude.{option_map}
-use Rattle.mm_text.specs.Token.{plain_token}
+use Rattle.mm_base.specs.Token.{plain_token}
 use Rattle.mm_explain.proofs.LaterLabels.{first_there, none_more}
 use Rattle.mm_explain.proofs.later.first_stated.Goals as goal
 

@@ -1,6 +1,6 @@
 -- None of those so far is it.
 use Rattle.std.proofs.Common.{◌≡◌, map, take, None, option_map}
-use Rattle.mm_text.specs.Token.{plain_token}
+use Rattle.mm_base.specs.Token.{plain_token}
 use Rattle.mm_explain.specs.Later.{first_stated}
 use Rattle.mm_explain.proofs.later.first_stated.Given as goal
 

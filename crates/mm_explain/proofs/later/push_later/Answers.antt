@@ -3,8 +3,8 @@ use Rattle.std.proofs.Common.{◌≡◌, ◌++◌, Option, Some, None, map, drop
 use Rattle.std.specs.Prelude.{option_map}
 use Rattle.std.proofs.lemmas.List.{drop-map}
 use Rattle.std.proofs.lemmas.Result.{on_ok_weaker}
-use Rattle.mm_text.specs.declared.token.Token.{Token}
-use Rattle.mm_text.specs.Token.{plain_token}
+use Rattle.mm_base.specs.declared.token.Token.{Token}
+use Rattle.mm_base.specs.Token.{plain_token}
 use Rattle.mm_text.specs.Files.{plain_file}
 use Rattle.mm_facts.specs.Explained.{detail_text, stated_later_at}
 use Rattle.mm_explain.specs.Later.{first_stated}

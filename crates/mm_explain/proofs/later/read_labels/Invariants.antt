@@ -1,7 +1,7 @@
 -- The statements so far and those left are all, and the labels so far are listed.
 use Rattle.std.proofs.Common.{length, map}
 use Rattle.std.specs.Prelude.{option_map}
-use Rattle.mm_text.specs.Token.{plain_token}
+use Rattle.mm_base.specs.Token.{plain_token}
 use Rattle.mm_explain.specs.Mirror.Last.{IsListing}
 use Rattle.mm_explain.proofs.later.read_labels.Given as goal
 

@@ -1,7 +1,7 @@
 -- The label of one more statement is offered, or it has none.
 use Rattle.std.proofs.Common.{ap, option_map}
-use Rattle.mm_text.specs.Token.{PlainToken, plain_token}
-use Rattle.mm_text.specs.Statement.{plain_statement}
+use Rattle.mm_base.specs.Token.{PlainToken, plain_token}
+use Rattle.mm_base.specs.Statement.{plain_statement}
 use Rattle.mm_explain.proofs.LastFaults.{searched_on, searched_past}
 use Rattle.mm_explain.proofs.nearest.offer_labels.Goals as goal
 

@@ -1,8 +1,8 @@
 -- The statements before the site, one after the other.
 use Rattle.std.proofs.Common.{map, arith}
 use Rattle.mm_text.specs.Files.{plain_file}
-use Rattle.mm_text.specs.Statement.{plain_statement}
-use Rattle.mm_text.specs.Token.{plain_token}
+use Rattle.mm_base.specs.Statement.{plain_statement}
+use Rattle.mm_base.specs.Token.{plain_token}
 use Rattle.mm_explain.proofs.Breaches.{some_left}
 use Rattle.mm_explain.proofs.OwnHypotheses.{firsts_at, firsts_next, firsts_none}
 use Rattle.mm_explain.proofs.own_hypotheses.firsts_before.Goals as goal

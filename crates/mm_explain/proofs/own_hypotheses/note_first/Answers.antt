@@ -1,8 +1,8 @@
 -- The label tells whether the first token is put behind.
 use Rattle.std.proofs.Common.{◌∷◌, [], ◌++◌, List, map, ap, sym, ◌∙◌, refl, append-nil}
 use Rattle.std.proofs.lemmas.List.{map-append}
-use Rattle.mm_text.specs.Statement.{plain_statement}
-use Rattle.mm_text.specs.Token.{PlainToken, plain_token}
+use Rattle.mm_base.specs.Statement.{plain_statement}
+use Rattle.mm_base.specs.Token.{PlainToken, plain_token}
 use Rattle.mm_explain.proofs.OwnHypotheses.{first_of_labelled, first_of_unlabelled}
 use Rattle.mm_explain.proofs.own_hypotheses.note_first.Goals as goal
 

@@ -1,8 +1,8 @@
 -- The facts so far are those of the hypotheses so far, and lines are counted in the files.
 use Rattle.std.proofs.Common.{◌≡◌, List, map, take}
 use Rattle.mm_text.specs.Files.{plain_file}
-use Rattle.mm_text.specs.Statement.{PlainStatement}
-use Rattle.mm_text.specs.Token.{plain_token}
+use Rattle.mm_base.specs.Statement.{PlainStatement}
+use Rattle.mm_base.specs.Token.{plain_token}
 use Rattle.mm_frame.specs.Sentence.{Sentence}
 use Rattle.mm_explain.specs.Mirror.Standing.{AddsEach, AreEarlier, firsts_of}
 use Rattle.mm_explain.proofs.own_hypotheses.push_each.Given as goal

@@ -1,7 +1,7 @@
 -- The files can't be taken, or the theorem is sought.
 use Rattle.std.proofs.Common.{map}
 use Rattle.mm_text.specs.Files.{plain_file}
-use Rattle.mm_text.proofs.Lists.{error_keeps}
+use Rattle.mm_base.proofs.Lists.{error_keeps}
 use Rattle.mm_explain.specs.declared.read_to.Unreached.TheVariants.{Check}
 use Rattle.mm_explain.proofs.LoneProofs.LoneTheorems.{load_unreached}
 use Rattle.mm_explain.proofs.read_to.read_to.Goals as goal

@@ -1,8 +1,8 @@
 -- The next statement is taken where one is left.
 use Rattle.std.proofs.Common.{true, inr, map, arith}
-use Rattle.mm_text.specs.Statement.{plain_statement}
+use Rattle.mm_base.specs.Statement.{plain_statement}
 use Rattle.mm_text.specs.Files.{plain_file}
-use Rattle.mm_text.proofs.Lists.{error_keeps}
+use Rattle.mm_base.proofs.Lists.{error_keeps}
 use Rattle.mm_verdict.specs.Mirror.Judged.{IsRead, TakesNext}
 use Rattle.mm_verdict.proofs.Verdicts.AcceptedStatements.{closes, has_room, few}
 use Rattle.mm_explain.proofs.read_to.take_next.Goals as goal

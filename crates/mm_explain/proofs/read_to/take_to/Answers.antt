@@ -1,8 +1,8 @@
 -- The statement has the label, or the way goes on.
 use Rattle.std.proofs.Common.{map}
 use Rattle.mm_text.specs.Files.{plain_file}
-use Rattle.mm_text.specs.Statement.{plain_statement}
-use Rattle.mm_text.proofs.Lists.{error_keeps}
+use Rattle.mm_base.specs.Statement.{plain_statement}
+use Rattle.mm_base.proofs.Lists.{error_keeps}
 use Rattle.mm_explain.proofs.LoneProofs.LoneTheorems.{found_here, seeks_on, stops_before}
 use Rattle.mm_explain.proofs.read_to.take_to.Goals as goal
 

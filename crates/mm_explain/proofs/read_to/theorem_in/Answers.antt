@@ -1,7 +1,7 @@
 -- What was found is the theorem, if it was taken as an assertion and is a `$p`.
 use Rattle.std.proofs.Common.{◌≡◌, ◌∙◌, ap, sym, rules}
-use Rattle.mm_text.specs.Statement.{PlainStatement, plain_statement}
-use Rattle.mm_text.specs.declared.statement.Kind.TheVariants.{Provable}
+use Rattle.mm_base.specs.Statement.{PlainStatement, plain_statement}
+use Rattle.mm_base.specs.declared.statement.Kind.TheVariants.{Provable}
 use Rattle.mm_explain.proofs.LoneProofs.LoneTheorems.{reached_as}
 use Rattle.mm_explain.proofs.read_to.theorem_in.Goals as goal
 

@@ -1,6 +1,6 @@
 -- By what was met before.
 use Rattle.std.proofs.Common.{arith, subst}
-use Rattle.mm_text.specs.Statement.{plain_statement}
+use Rattle.mm_base.specs.Statement.{plain_statement}
 use Rattle.mm_explain.specs.Mirror.Standing.{IsScope}
 use Rattle.mm_explain.proofs.HypothesisScopes.{inner_few, passed_met}
 use Rattle.mm_explain.proofs.scope.pass.Goals as goal

@@ -1,6 +1,6 @@
 -- The statement opens a block, ends the one that is sought or one within it, or does neither.
 use Rattle.std.proofs.Common.{refl}
-use Rattle.mm_text.specs.Statement.{plain_statement}
+use Rattle.mm_base.specs.Statement.{plain_statement}
 use Rattle.mm_explain.proofs.HypothesisScopes.{opened_met, closed_met, ended_met, other_met}
 use Rattle.mm_explain.proofs.scope.pass_behind.Goals as goal
 

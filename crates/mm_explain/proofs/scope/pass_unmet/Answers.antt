@@ -1,6 +1,6 @@
 -- The statement has the label, or it hasn't.
 use Rattle.std.proofs.Common.{refl}
-use Rattle.mm_text.specs.Statement.{plain_statement}
+use Rattle.mm_base.specs.Statement.{plain_statement}
 use Rattle.mm_explain.proofs.HypothesisScopes.{labelled_met, unlabelled_met}
 use Rattle.mm_explain.proofs.scope.pass_unmet.Goals as goal
 

@@ -2,7 +2,7 @@
 use Rattle.std.proofs.Common.{[], ◌∷◌, List, map, sym, append-nil}
 use Rattle.std.proofs.lemmas.Result.{on_ok_weaker}
 use Rattle.mm_text.specs.Files.{PlainFile, plain_file}
-use Rattle.mm_text.specs.Token.{plain_token}
+use Rattle.mm_base.specs.Token.{plain_token}
 use Rattle.mm_facts.specs.Explained.{stated_at, block_ended_at}
 use Rattle.mm_rules.specs.Places.{token_place}
 use Rattle.mm_facts.proofs.HaltDetails.{one_told}

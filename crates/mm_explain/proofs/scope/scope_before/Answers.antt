@@ -1,7 +1,7 @@
 -- The statements before the site, one after the other.
 use Rattle.std.proofs.Common.{map, arith}
 use Rattle.mm_text.specs.Files.{plain_file}
-use Rattle.mm_text.specs.Statement.{plain_statement}
+use Rattle.mm_base.specs.Statement.{plain_statement}
 use Rattle.mm_explain.proofs.Breaches.{some_left}
 use Rattle.mm_explain.proofs.HypothesisScopes.{scope_at, scope_next, scope_none}
 use Rattle.mm_explain.proofs.scope.scope_before.Goals as goal

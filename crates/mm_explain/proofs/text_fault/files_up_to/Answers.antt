@@ -1,6 +1,6 @@
 -- The cut file stands in the place of the whole one, if there is one.
 use Rattle.std.proofs.Common.{◌≡◌, List, length, map, refl, ap, ◌∙◌, slice_set, arith, get_or}
-use Rattle.mm_text.specs.declared.file.File.{File}
+use Rattle.mm_base.specs.declared.file.File.{File}
 use Rattle.mm_text.specs.Files.{plain_file}
 use Rattle.mm_explain.proofs.CutFiles.{cut_made, none_cut}
 use Rattle.mm_explain.proofs.text_fault.files_up_to.Goals.{then-file-len, else-file-len}

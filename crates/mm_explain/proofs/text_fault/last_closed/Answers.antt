@@ -1,7 +1,7 @@
 -- The reading is one, so what a new reader has left is the statements of the files.
 use Rattle.std.proofs.Common.{◌∙◌, List, ap, map}
 use Rattle.std.proofs.lemmas.Result.{IfOk-weaker}
-use Rattle.mm_text.specs.Statement.{PlainStatement}
+use Rattle.mm_base.specs.Statement.{PlainStatement}
 use Rattle.mm_text.specs.Files.{plain_file}
 use Rattle.mm_explain.specs.TextFacts.{closing_tokens, last_of}
 use Rattle.mm_verdict.proofs.Verdicts.AcceptedStatements.{same_reading}

@@ -1,7 +1,7 @@
 -- One more statement is read.
 use Rattle.std.proofs.Common.{refl}
-use Rattle.mm_text.specs.Statement.{plain_statement}
-use Rattle.mm_text.specs.Blocks.{is_closing}
+use Rattle.mm_base.specs.Statement.{plain_statement}
+use Rattle.mm_base.specs.Blocks.{is_closing}
 use Rattle.mm_explain.proofs.LastFaults.{reading_on}
 use Rattle.mm_explain.proofs.text_fault.read_closed.Goals as goal
 

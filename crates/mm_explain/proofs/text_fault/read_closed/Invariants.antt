@@ -1,7 +1,7 @@
 -- The statements so far and those left are all, and the last `$}` so far is known.
 use Rattle.std.proofs.Common.{length}
 use Rattle.std.specs.Prelude.{option_map}
-use Rattle.mm_text.specs.Token.{plain_token}
+use Rattle.mm_base.specs.Token.{plain_token}
 use Rattle.mm_explain.specs.Mirror.Last.{IsReading}
 use Rattle.mm_explain.proofs.text_fault.read_closed.Given as goal
 

@@ -4,7 +4,7 @@ use Rattle.mm_code.specs.Layout.{texts}
 use Rattle.mm_frame.specs.Sentence.{Sentence}
 use Rattle.mm_proof.specs.Parsed.{SaySteps}
 use Rattle.mm_proof.specs.Tokens.{is_incomplete}
-use Rattle.mm_text.proofs.Lists.{error_keeps}
+use Rattle.mm_base.proofs.Lists.{error_keeps}
 use Rattle.mm_explain.proofs.LoneProofs.TriedTokens.{is_complete, judged_where, on_rule, tokens_fault}
 use Rattle.mm_explain.proofs.tried.judged_steps.Goals as goal
 

@@ -1,6 +1,6 @@
 -- The tokens are those of the text.
 use Rattle.std.proofs.Common.{List, map, length, take, ap, sym, subst, ◌∙◌}
-use Rattle.mm_text.specs.Token.{PlainToken, plain_token}
+use Rattle.mm_base.specs.Token.{PlainToken, plain_token}
 use Rattle.mm_code.specs.Words.{texts_of}
 use Rattle.mm_code.proofs.ReadBack.{texts_in}
 use Rattle.mm_facts.specs.Why.{IsPlaceAmong}

@@ -4,7 +4,7 @@ use Rattle.std.proofs.Common.{◌∙◌}
 use Rattle.mm_code.specs.Layout.{texts}
 use Rattle.mm_frame.specs.Sentence.{Sentence}
 use Rattle.mm_proof.specs.Tokens.{is_incomplete}
-use Rattle.mm_text.proofs.Lists.{error_keeps}
+use Rattle.mm_base.proofs.Lists.{error_keeps}
 use Rattle.mm_explain.proofs.LoneProofs.TriedTokens.{judged_where, moves_fault, moves_tried, on_rule}
 use Rattle.mm_explain.proofs.LoneProofs.TriedTokens.{SayJudged}
 use Rattle.mm_explain.proofs.tried.try_tokens.Goals as goal

@@ -1,7 +1,7 @@
 -- What stands under the label of the last statement is that statement.
 use Rattle.std.proofs.Common.{ap, option_map, inl, inr}
-use Rattle.mm_text.specs.Token.{plain_token}
-use Rattle.mm_text.specs.Statement.{plain_statement}
+use Rattle.mm_base.specs.Token.{plain_token}
+use Rattle.mm_base.specs.Statement.{plain_statement}
 use Rattle.mm_explain.proofs.Explanations.{not_other, number_found}
 use Rattle.mm_explain.proofs.why.last_number.Goals as goal
 

@@ -1,7 +1,7 @@
 -- The proof at fault is that of the statement, and the text its head and the facts.
 use Rattle.std.proofs.Common.{ℕ, List, ◌++◌, ◌-◌, map, length, ap, refl, sym, subst, ◌∙◌}
 use Rattle.std.specs.Prelude.{option_map}
-use Rattle.mm_text.specs.Statement.{plain_statement}
+use Rattle.mm_base.specs.Statement.{plain_statement}
 use Rattle.mm_text.specs.Files.{PlainFile, plain_file}
 use Rattle.mm_frame.specs.Sentence.{sentence_of}
 use Rattle.mm_code.specs.Layout.{texts}

@@ -2,7 +2,7 @@
 use Rattle.std.proofs.Common.{◌≡◌, ◌<◌, ◌≤◌, ◌+◌, ◌-◌, ℕ, List, Some, length, slice_get, take, arith, rules, refl, sym, subst, ap, ◌∙◌, vec_len}
 use Rattle.std.specs.List.{AllZip, AllByRecursion}
 use Rattle.std.proofs.lemmas.Option.{slice_get-get_or}
-use Rattle.mm_text.proofs.Lists.{zip_left}
+use Rattle.mm_base.proofs.Lists.{zip_left}
 use Rattle.mm_frame.specs.Numbers.{symbols_of, AreNumbers}
 use Rattle.mm_step.specs.Stores.{entries_in, numbers_in}
 use Rattle.mm_proof.proofs.ProofNumbers.NamedAssertions.{assertion_number}

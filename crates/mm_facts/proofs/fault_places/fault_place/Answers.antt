@@ -1,7 +1,7 @@
 -- It is a place among the statement's tokens.
 use Rattle.std.proofs.Common.{List, map, take, ap, sym, subst, ◌∙◌}
-use Rattle.mm_text.specs.Token.{PlainToken, plain_token}
-use Rattle.mm_text.specs.Statement.{plain_statement}
+use Rattle.mm_base.specs.Token.{PlainToken, plain_token}
+use Rattle.mm_base.specs.Statement.{plain_statement}
 use Rattle.mm_code.specs.Words.{texts_of}
 use Rattle.mm_frame.specs.Sentence.{sentence_of}
 use Rattle.mm_facts.specs.Why.{IsPlaceAmong}

@@ -1,7 +1,7 @@
 -- The place where the moves stop, and else that of the token.
 use Rattle.std.proofs.Common.{inl, take, List, ℕ, map, subst, arith}
 use Rattle.std.proofs.lemmas.List.{length-map}
-use Rattle.mm_text.specs.Token.{plain_token}
+use Rattle.mm_base.specs.Token.{plain_token}
 use Rattle.mm_places.specs.WholePlaces.{IsWholePlace}
 use Rattle.mm_facts.specs.Explained.{judged_tokens}
 use Rattle.mm_code.specs.Layout.{texts}

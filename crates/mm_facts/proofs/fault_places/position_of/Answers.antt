@@ -1,6 +1,6 @@
 -- The position of the token, and so many bytes more.
 use Rattle.std.proofs.Common.{[], refl}
-use Rattle.mm_text.specs.declared.token.Token.{Token}
+use Rattle.mm_base.specs.declared.token.Token.{Token}
 use Rattle.mm_facts.proofs.FaultPlaces.{position_there}
 use Rattle.mm_facts.proofs.fault_places.position_of.Goals as goal
 

@@ -3,7 +3,7 @@ use Rattle.std.proofs.Common.{length, map, refl, subst, sym, List, ℕ, arith}
 use Rattle.std.proofs.lemmas.List.{length-map}
 use Rattle.mm_code.specs.Layout.{texts}
 use Rattle.mm_code.specs.Words.{texts_of}
-use Rattle.mm_text.specs.Token.{PlainToken, plain_token}
+use Rattle.mm_base.specs.Token.{PlainToken, plain_token}
 use Rattle.mm_step.specs.Moves.{Move}
 use Rattle.mm_places.specs.Places.{IsMovePlace}
 use Rattle.mm_facts.specs.Why.{IsStopPlace}

@@ -1,7 +1,7 @@
 use Rattle.std.proofs.Common.{take}
 use Rattle.std.proofs.lemmas.List.{take_more}
 use Rattle.std.proofs.lemmas.Option.{slice_get-get_or}
-use Rattle.mm_text.proofs.Lists.{zip_push}
+use Rattle.mm_base.proofs.Lists.{zip_push}
 use Rattle.mm_forms.proofs.small.labels_in_order.Goals as goal
 
 pub loop-one-preserved : goal.loop-one-preserved

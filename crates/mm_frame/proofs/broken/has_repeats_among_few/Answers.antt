@@ -1,6 +1,6 @@
 use Rattle.std.proofs.Common.{rules, ℕ, List, take, subst, sym, arith}
 use Rattle.std.proofs.lemmas.List.{take-map, take_all, length-map}
-use Rattle.mm_text.specs.declared.token.Token.{Token}
+use Rattle.mm_base.specs.declared.token.Token.{Token}
 use Rattle.mm_frame.proofs.Names.NameNumbers.{StandOnce, once_with_name}
 use Rattle.mm_frame.proofs.Rules.RepeatedSymbols.{found_again, new_name, texts_of}
 use Rattle.mm_frame.proofs.broken.has_repeats_among_few.Goals as goal

@@ -4,8 +4,8 @@ use Rattle.std.proofs.lemmas.List.{length-map}
 use Rattle.std.proofs.lemmas.Option.{same_Some, slice_get_within}
 use Rattle.std.proofs.lemmas.Slice.Eq.{bytes_eq-Decides}
 use Rattle.std.proofs.str.Laws.{order}
-use Rattle.mm_text.specs.declared.token.Token.{Token}
-use Rattle.mm_text.proofs.Lists.{at_from_contains}
+use Rattle.mm_base.specs.declared.token.Token.{Token}
+use Rattle.mm_base.proofs.Lists.{at_from_contains}
 use Rattle.mm_frame.proofs.Rules.RepeatedSymbols.{text_at, texts_of}
 use Rattle.mm_frame.proofs.broken.index_among.Goals as goal
 

@@ -1,6 +1,6 @@
 -- One index more is one more that says more, or none.
 use Rattle.std.proofs.Common.{◌≡◌, ◌<◌, length, arith}
-use Rattle.mm_text.proofs.Lists.{get_within}
+use Rattle.mm_base.proofs.Lists.{get_within}
 use Rattle.mm_frame.specs.Mirror.Layout.{statements_of}
 use Rattle.mm_frame.proofs.Frames.FurtherDistinct.{none_further, one_further}
 use Rattle.mm_frame.proofs.further.find_further.Goals as goal

@@ -5,7 +5,7 @@ use Rattle.mm_frame.specs.Mirror.Patterned.{HaveFirstPatterns, AreNoted}
 use Rattle.std.proofs.lemmas.Option.{slice_get-get_or}
 use Rattle.mm_frame.specs.Mirror.Layout.{statements_of}
 use Rattle.mm_frame.proofs.BookLists.GrownLists.{all_statements}
-use Rattle.mm_text.proofs.Lists.{get_within}
+use Rattle.mm_base.proofs.Lists.{get_within}
 use Rattle.mm_frame.proofs.Frames.FramePatterns.{longer_more, counted, essential_step, typed_step}
 use Rattle.mm_frame.proofs.Frames.FramePatterns.{variables_same, few_hypotheses}
 use Rattle.mm_frame.proofs.pattern.push_patterns.Goals as goal

@@ -1,5 +1,5 @@
 use Rattle.std.proofs.Common.{refl, inl, inr}
-use Rattle.mm_text.specs.declared.statement.Kind.TheVariants.{Variables}
+use Rattle.mm_base.specs.declared.statement.Kind.TheVariants.{Variables}
 use Rattle.mm_frame.specs.Sentence.{Declares}
 use Rattle.mm_frame.specs.Active.{IsActiveSymbol}
 use Rattle.mm_frame.specs.Mirror.Latest.{IsLatest}

@@ -1,6 +1,6 @@
 use Rattle.std.proofs.Common.{arith, option_to_list, sym, append-nil, []}
 use Rattle.mm_frame.proofs.Blocks.ScopeStack.{dropped_more, forgotten_last, popped_size}
-use Rattle.mm_text.proofs.Lists.{get_kept}
+use Rattle.mm_base.proofs.Lists.{get_kept}
 use Rattle.mm_frame.proofs.take_statement.forget_inactive.Goals as goal
 
 pub loop-init : goal.loop-init

@@ -2,7 +2,7 @@ use Rattle.std.proofs.Common.{rules, List, [], ◌∷◌, ◌++◌, length, take
 use Rattle.std.proofs.Common.{arith}
 use Rattle.std.proofs.lemmas.Option.{slice_get_within}
 use Rattle.std.proofs.lemmas.List.{length-map, length-take-le}
-use Rattle.mm_text.proofs.Lists.{all_at, zip_take}
+use Rattle.mm_base.proofs.Lists.{all_at, zip_take}
 use Rattle.mm_listing.specs.declared.lines.Line.{Line}
 use Rattle.mm_step.specs.Steps.{IsNumberedMove}
 use Rattle.mm_proof.specs.Mirror.CodeSteps.{code_move, code_moves}

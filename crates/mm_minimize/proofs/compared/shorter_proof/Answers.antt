@@ -1,5 +1,5 @@
 -- What is found is a shorter proof of the theorem that is read again.
-use Rattle.mm_text.specs.Statement.{plain_statement}
+use Rattle.mm_base.specs.Statement.{plain_statement}
 use Rattle.mm_minimize.proofs.ShorterTheorems.ComparedAgain.{compared_so}
 use Rattle.mm_minimize.proofs.compared.shorter_proof.Goals as goal
 

@@ -1,7 +1,7 @@
 -- One more statement was read.
 use Rattle.std.proofs.Common.{Bool, true, false, map, sym, subst, ◌∙◌}
 use Rattle.mm_text.specs.Files.{plain_file}
-use Rattle.mm_text.specs.Statement.{PlainStatement, plain_statement}
+use Rattle.mm_base.specs.Statement.{PlainStatement, plain_statement}
 use Rattle.mm_verdict.specs.Mirror.Judged.{TakesNext}
 use Rattle.mm_minimize.proofs.ShorterTheorems.StatementRemarks.{label_kept, next_begins, read_none, read_more}
 use Rattle.mm_minimize.proofs.ShorterTheorems.StatementRemarks.{read_over, read_all}

@@ -1,5 +1,5 @@
 -- The file is there, and the position in it is passed now.
-use Rattle.mm_text.specs.Statement.{plain_statement}
+use Rattle.mm_base.specs.Statement.{plain_statement}
 use Rattle.mm_minimize.proofs.ShorterTheorems.StatementRemarks.{passed_at, passed_now, passed_there}
 use Rattle.mm_minimize.proofs.ShorterTheorems.StatementRemarks.{remark_said, within_file}
 use Rattle.mm_verdict.proofs.FileBytes.StatementsInFiles.{number_within}

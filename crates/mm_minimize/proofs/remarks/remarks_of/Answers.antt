@@ -3,7 +3,7 @@ use Rattle.std.proofs.Common.{List, map, Option, None, sym, subst, ◌∙◌}
 use Rattle.std.proofs.lemmas.List.{length-map}
 use Rattle.mm_text.specs.Files.{plain_file}
 use Rattle.mm_text.specs.Reading.{PlainFault, Reads}
-use Rattle.mm_text.specs.Statement.{PlainStatement}
+use Rattle.mm_base.specs.Statement.{PlainStatement}
 use Rattle.mm_minimize.specs.declared.remarks.Passed.{Passed}
 use Rattle.mm_minimize.specs.Mirror.Shortening.{ArePassed, AreRemarksOf}
 use Rattle.mm_minimize.proofs.ShorterTheorems.StatementRemarks.{passed_none}

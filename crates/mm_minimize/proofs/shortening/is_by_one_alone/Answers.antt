@@ -5,7 +5,7 @@ use Rattle.std.proofs.lemmas.Option.{slice_get-get_or}
 use Rattle.mm_frame.specs.Numbers.{labelled_sentences}
 use Rattle.mm_frame.specs.declared.number.LabelId.{LabelId}
 use Rattle.mm_frame.proofs.Names.NameNumbers.{get_mapped}
-use Rattle.mm_text.proofs.Lists.{all_at}
+use Rattle.mm_base.proofs.Lists.{all_at}
 use Rattle.mm_step.specs.Plain.{ids_in}
 use Rattle.mm_minimize.specs.Mirror.Shortening.{HaveOneCode}
 use Rattle.mm_minimize.proofs.ShorterTheorems.LoneUses.{IsOneSoFar, one_first, one_passed, one_second, one_all}

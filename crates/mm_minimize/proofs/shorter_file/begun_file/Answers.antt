@@ -1,6 +1,7 @@
 -- The files have no more bytes than they may.
 use Rattle.std.proofs.Common.{List, map, ◌≡◌, ◌≤◌, [], ap, subst, sym}
-use Rattle.mm_text.specs.Files.{PlainFile, plain_file, total_bytes, most_bytes}
+use Rattle.mm_text.specs.Files.{PlainFile, plain_file, total_bytes}
+use Rattle.mm_base.specs.MostBytes.{most_bytes}
 use Rattle.mm_rules.specs.Conclusion.{Conclusion}
 use Rattle.mm_save.specs.Mirror.AllSaving.{IsWrittenSoFar}
 use Rattle.mm_verdict.proofs.Verdicts.AcceptedStatements.{KeptWell, within_limit}

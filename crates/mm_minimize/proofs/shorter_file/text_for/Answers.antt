@@ -1,6 +1,6 @@
 -- The small proof of the shorter tree is put.
 use Rattle.std.proofs.lemmas.Result.{IfOk-weaker}
-use Rattle.mm_text.specs.Statement.{plain_statement}
+use Rattle.mm_base.specs.Statement.{plain_statement}
 use Rattle.mm_minimize.proofs.ShorterTheorems.ShortenedFiles.{stands_shorter}
 use Rattle.mm_minimize.proofs.shorter_file.text_for.Goals as goal
 

@@ -1,6 +1,6 @@
 -- The next theorem is written if it stands in the file.
 use Rattle.std.proofs.Common.{◌++◌, ◌∷◌, [], sym, ◌∙◌, arith}
-use Rattle.mm_text.specs.Statement.{plain_statement}
+use Rattle.mm_base.specs.Statement.{plain_statement}
 use Rattle.mm_verdict.proofs.Questions.TheoremsAgain.{at_in}
 use Rattle.mm_minimize.proofs.ShorterTheorems.ComparedAgain.{fewer_left}
 use Rattle.mm_minimize.proofs.ShorterTheorems.ShortenedFiles.{next_elsewhere, next_follows, next_put}

@@ -1,6 +1,6 @@
 -- Up to the statement that was read last, the theorems of the file are written.
 use Rattle.std.proofs.Common.{◌≡◌, List, length}
-use Rattle.mm_text.specs.Statement.{PlainStatement}
+use Rattle.mm_base.specs.Statement.{PlainStatement}
 use Rattle.mm_minimize.specs.Mirror.AllShortening.{IsShortenedSoFar}
 use Rattle.mm_verdict.specs.Mirror.Rereading.{IsReadTo}
 use Rattle.mm_minimize.proofs.shorter_file.write_all.Given as goal

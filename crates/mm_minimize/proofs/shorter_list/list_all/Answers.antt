@@ -1,6 +1,6 @@
 -- The next theorem is listed.
 use Rattle.std.proofs.Common.{◌++◌, ◌∷◌, [], arith}
-use Rattle.mm_text.specs.Statement.{plain_statement}
+use Rattle.mm_base.specs.Statement.{plain_statement}
 use Rattle.mm_minimize.proofs.ShorterTheorems.ShorterLists.{listed_on, listed_past}
 use Rattle.mm_verdict.proofs.Questions.TheoremsAgain.{at_in}
 use Rattle.mm_minimize.proofs.ShorterTheorems.ComparedAgain.{fewer_left}

@@ -1,6 +1,6 @@
 -- Up to the statement that was read last, the theorems are listed.
 use Rattle.std.proofs.Common.{List, length}
-use Rattle.mm_text.specs.Statement.{PlainStatement}
+use Rattle.mm_base.specs.Statement.{PlainStatement}
 use Rattle.mm_minimize.specs.Mirror.AllShortening.{IsListedSoFar}
 use Rattle.mm_verdict.specs.Mirror.Rereading.{IsReadTo}
 use Rattle.mm_minimize.proofs.shorter_list.list_all.Given as goal

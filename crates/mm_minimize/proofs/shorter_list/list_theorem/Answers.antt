@@ -1,6 +1,6 @@
 -- The line of a theorem with a shorter proof is put, and its sizes are added.
 use Rattle.std.proofs.Common.{inl}
-use Rattle.mm_text.specs.Statement.{plain_statement}
+use Rattle.mm_base.specs.Statement.{plain_statement}
 use Rattle.mm_minimize.proofs.ShorterTheorems.ShorterLists.{listed_line, may_be_listed}
 use Rattle.mm_minimize.proofs.shorter_list.list_theorem.Goals as goal
 

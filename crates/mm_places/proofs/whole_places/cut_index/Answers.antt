@@ -4,7 +4,7 @@ use Rattle.std.proofs.Common.{append-nil, Option, arith}
 use Rattle.std.proofs.lemmas.List.{take_all, take_more, length-take-le}
 use Rattle.std.proofs.lemmas.List.Elements.{All-get_or}
 use Rattle.std.proofs.lemmas.Option.{slice_get-get_or}
-use Rattle.mm_text.proofs.Lists.{split_at}
+use Rattle.mm_base.proofs.Lists.{split_at}
 use Rattle.mm_code.specs.Letters.{IsLetter}
 use Rattle.mm_places.specs.Mirror.CodeWhole.{IsBegun}
 use Rattle.mm_places.proofs.ProofPlaces.WholePlaces.{begun_nothing, cut_there, never_cut}

@@ -3,7 +3,7 @@ use Rattle.std.proofs.lemmas.Bool.{false≢true, ltb-false}
 use Rattle.std.proofs.lemmas.Bool.Decides.{Decides-ltb}
 use Rattle.std.proofs.lemmas.Option.{none-some, slice_get_past}
 use Rattle.std.proofs.lemmas.List.{length-map}
-use Rattle.mm_text.proofs.Lists.{all_at}
+use Rattle.mm_base.proofs.Lists.{all_at}
 use Rattle.mm_frame.specs.declared.number.LabelId.{LabelId}
 use Rattle.mm_step.specs.Moves.{name}
 use Rattle.mm_step.specs.Plain.{ids_in}

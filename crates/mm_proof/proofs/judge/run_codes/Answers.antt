@@ -1,5 +1,5 @@
 use Rattle.std.proofs.Common.{refl}
-use Rattle.mm_text.proofs.Lists.{all_at}
+use Rattle.mm_base.proofs.Lists.{all_at}
 use Rattle.mm_proof.specs.Mirror.CodeSteps.{code_moves}
 use Rattle.mm_step.specs.Mirror.CodeRun.{MayBeMade}
 use Rattle.mm_proof.proofs.ProofVerdicts.JudgedMoves.{refused, judged_none, stopped_fault}

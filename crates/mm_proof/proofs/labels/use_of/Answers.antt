@@ -1,7 +1,7 @@
 use Rattle.std.proofs.Common.{arith, inl, inr, sym, ◌∙◌}
 use Rattle.std.proofs.lemmas.Bool.{false≢true}
 use Rattle.mm_frame.proofs.Rules.ObeyedRules.{some_later}
-use Rattle.mm_text.proofs.Lists.{get_take}
+use Rattle.mm_base.proofs.Lists.{get_take}
 use Rattle.mm_proof.proofs.ProofNumbers.NumberedLabels.{numbers_order, not_earlier}
 use Rattle.mm_proof.proofs.labels.use_of.Goals as goal
 

@@ -5,7 +5,7 @@ use Rattle.mm_step.specs.declared.profile.Profile.{Profile}
 use Rattle.mm_rules.specs.Conclusion.{Conclusion}
 use Rattle.mm_render.specs.Compared.{IsCompared}
 use Rattle.mm_rules.specs.Compared.{IsSameFault}
-use Rattle.mm_text.proofs.Lists.{error_keeps}
+use Rattle.mm_base.proofs.Lists.{error_keeps}
 use Rattle.mm_verdict.proofs.Questions.AskedTheorems.{why}
 use Rattle.mm_render.proofs.ToldProofs.ComparedTexts.{compared_of, same_fault, asked_fault}
 use Rattle.mm_render.proofs.asked_texts.is_same_proof.Goals as goal

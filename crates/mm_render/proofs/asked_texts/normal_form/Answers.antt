@@ -3,7 +3,7 @@ use Rattle.std.proofs.Common.{ap, ◌∙◌}
 use Rattle.std.proofs.lemmas.Result.{IfOk-weaker}
 use Rattle.mm_rules.specs.Conclusion.{Conclusion}
 use Rattle.mm_render.specs.Forms.{IsNormalText}
-use Rattle.mm_text.proofs.Lists.{error_keeps}
+use Rattle.mm_base.proofs.Lists.{error_keeps}
 use Rattle.mm_render.proofs.ToldProofs.ToldTrees.{told_of_tree, normal_fault, ask_fault}
 use Rattle.mm_verdict.proofs.Questions.AskedTheorems.{why}
 use Rattle.mm_render.proofs.asked_texts.normal_form.Goals as goal

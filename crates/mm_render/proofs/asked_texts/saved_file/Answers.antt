@@ -1,12 +1,13 @@
 -- The bytes are the theorem's file with its proof in the form.
 use Rattle.std.proofs.Common.{◌≡◌, ◌≤◌, List, map, None, sym, ap, subst, ◌∙◌}
-use Rattle.mm_text.specs.Statement.{PlainStatement}
-use Rattle.mm_text.specs.Files.{most_bytes, PlainFile, plain_file, total_bytes}
+use Rattle.mm_base.specs.Statement.{PlainStatement}
+use Rattle.mm_base.specs.MostBytes.{most_bytes}
+use Rattle.mm_text.specs.Files.{PlainFile, plain_file, total_bytes}
 use Rattle.mm_text.specs.Reading.{Reads}
 use Rattle.mm_rules.specs.Conclusion.{Conclusion}
 use Rattle.mm_render.specs.Mirror.Rewriting.{HoldsSpan, IsPutFault}
 use Rattle.mm_verdict.proofs.Verdicts.AcceptedStatements.{within_limit, KeptWell}
-use Rattle.mm_text.proofs.Lists.{error_keeps}
+use Rattle.mm_base.proofs.Lists.{error_keeps}
 use Rattle.mm_render.proofs.SavedProofs.FileTotals.{holds_span, saved_of, ask_save_fault, text_save_fault}
 use Rattle.mm_render.proofs.SavedProofs.FileTotals.{put_save_fault}
 use Rattle.mm_render.proofs.asked_texts.saved_file.Goals as goal

@@ -1,14 +1,14 @@
 -- What is read again under the label is the statement.
 use Rattle.std.proofs.Common.{◌≡◌, ◌<◌, ◌++◌, List, ℕ, length, map, sym, ap, subst, ◌∙◌}
 use Rattle.mm_text.specs.Files.{PlainFile, plain_file}
-use Rattle.mm_text.specs.Statement.{PlainStatement, plain_statement}
+use Rattle.mm_base.specs.Statement.{PlainStatement, plain_statement}
 use Rattle.mm_frame.specs.Numbers.{labelled_sentences}
 use Rattle.mm_frame.specs.Rules.{AllMeant}
 use Rattle.mm_frame.specs.Sentence.{Sentence}
 use Rattle.mm_rules.specs.Conclusion.{Conclusion}
 use Rattle.mm_rules.specs.Places.{place_of, place_text}
 use Rattle.mm_rules.specs.Verdict.{CanBeRead, sentences}
-use Rattle.mm_text.proofs.Lists.{error_keeps}
+use Rattle.mm_base.proofs.Lists.{error_keeps}
 use Rattle.mm_verdict.proofs.Verdicts.AcceptedStatements.{AreOf, own_statements, read_statements}
 use Rattle.mm_verdict.proofs.Verdicts.AcceptedStatements.{KeptWell}
 use Rattle.mm_render.proofs.ToldProofs.ToldStatements.{tells_statement}

@@ -2,7 +2,7 @@
 use Rattle.std.proofs.Common.{Err, ap}
 use Rattle.mm_rules.specs.Compared.{text_fault}
 use Rattle.mm_render.proofs.ToldProofs.ComparedTexts.{fails_as}
-use Rattle.mm_text.proofs.Lists.{error_keeps}
+use Rattle.mm_base.proofs.Lists.{error_keeps}
 use Rattle.mm_render.proofs.comparison.judge_steps.Goals as goal
 
 pub returns-in_err-_used-clause-fault : goal.returns-in_err-_used-clause-fault

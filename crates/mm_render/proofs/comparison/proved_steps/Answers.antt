@@ -4,7 +4,7 @@ use Rattle.std.proofs.lemmas.Bool.{both_ways}
 use Rattle.mm_code.specs.Layout.{texts}
 use Rattle.mm_rules.specs.Compared.{text_fault}
 use Rattle.mm_render.proofs.ToldProofs.ComparedTexts.{fails_as, unproved_of}
-use Rattle.mm_text.proofs.Lists.{error_keeps}
+use Rattle.mm_base.proofs.Lists.{error_keeps}
 use Rattle.mm_render.proofs.comparison.proved_steps.Goals as goal
 
 pub returns-in_err-steps-clause-fault : goal.returns-in_err-steps-clause-fault

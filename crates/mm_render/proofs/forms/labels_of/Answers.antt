@@ -1,6 +1,6 @@
 -- What is given is within the most labels, and what is refused is over them.
 use Rattle.std.proofs.Common.{◌≡◌, ◌⊎◌, [], ◌∷◌, ◌++◌, Result, Err, length, inl, inr, refl}
-use Rattle.mm_text.proofs.Lists.{error_keeps}
+use Rattle.mm_base.proofs.Lists.{error_keeps}
 use Rattle.mm_step.specs.Tree.{spelling}
 use Rattle.mm_step.specs.declared.fault.ExpandFault.{ExpandFault}
 use Rattle.mm_step.specs.declared.fault.ExpandFault.TheVariants as expand

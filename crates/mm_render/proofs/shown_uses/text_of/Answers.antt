@@ -4,7 +4,7 @@ use Rattle.std.proofs.Common.{subst}
 use Rattle.std.proofs.Common.{◌∙◌, arith, append-nil, refl, Some, take}
 use Rattle.std.proofs.lemmas.List.{take_all, length-map}
 use Rattle.std.proofs.lemmas.Option.{slice_get_read, slice_get-get_or}
-use Rattle.mm_text.proofs.Lists.{get_within, zip_left}
+use Rattle.mm_base.proofs.Lists.{get_within, zip_left}
 use Rattle.mm_frame.specs.Sentence.{Sentence}
 use Rattle.mm_listing.specs.declared.lines.Line.{Line}
 use Rattle.mm_listing.specs.Listing.{ListedStep, TellsStep}

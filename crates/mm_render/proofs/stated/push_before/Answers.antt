@@ -1,6 +1,6 @@
 -- By the kind nothing, the frame, or the frame and what says more.
 use Rattle.std.proofs.Common.{[], refl, sym, ap, ◌∙◌, inl, inr, append-nil, subst, take}
-use Rattle.mm_text.specs.declared.statement.Kind.{Kind}
+use Rattle.mm_base.specs.declared.statement.Kind.{Kind}
 use Rattle.mm_verdict.specs.Stated.{IsTextBefore}
 use Rattle.mm_frame.specs.Taken.{kind_behind}
 use Rattle.mm_frame.proofs.Names.LabelNumbers.{numbered_get}

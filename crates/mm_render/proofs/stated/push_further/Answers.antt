@@ -1,5 +1,5 @@
 -- The symbols are those of the `$d`.
-use Rattle.mm_text.proofs.Lists.{get_within}
+use Rattle.mm_base.proofs.Lists.{get_within}
 use Rattle.mm_frame.specs.Numbers.{symbols_of}
 use Rattle.mm_step.specs.Stores.{numbers_in}
 use Rattle.mm_rules.proofs.Numbers.{numbers_within}

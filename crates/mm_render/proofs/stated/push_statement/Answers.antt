@@ -1,7 +1,7 @@
 -- Label, keyword and symbols are those of the statement.
 use Rattle.std.proofs.Common.{ap, sym, ◌∙◌}
-use Rattle.mm_text.specs.Statement.{keyword_of}
-use Rattle.mm_text.proofs.Lists.{get_within}
+use Rattle.mm_base.specs.Statement.{keyword_of}
+use Rattle.mm_base.proofs.Lists.{get_within}
 use Rattle.mm_frame.specs.Numbers.{labelled_sentences, symbols_of}
 use Rattle.mm_step.specs.Stores.{numbers_in}
 use Rattle.mm_rules.proofs.Numbers.{numbers_within}

@@ -1,6 +1,6 @@
 -- The refusal tells the fault of the statement.
 use Rattle.std.proofs.Common.{Err, refl, ap, ◌∙◌}
-use Rattle.mm_text.specs.Statement.{PlainStatement, plain_statement}
+use Rattle.mm_base.specs.Statement.{PlainStatement, plain_statement}
 use Rattle.mm_rules.specs.declared.rule.Rule.TheVariants as rules
 use Rattle.mm_rules.proofs.Judgements.JudgedProofs.{same_refusal}
 use Rattle.mm_rules.proofs.judge.judge.Goals as goal

@@ -1,6 +1,6 @@
 -- The prover judges the last statement at its index.
 use Rattle.std.proofs.Common.{length, ap, ◌∙◌}
-use Rattle.mm_text.specs.Statement.{PlainStatement, plain_statement}
+use Rattle.mm_base.specs.Statement.{PlainStatement, plain_statement}
 use Rattle.mm_frame.specs.Sentence.{sentence_of}
 use Rattle.mm_step.specs.Plain.{token_texts}
 use Rattle.mm_rules.proofs.Judgements.JudgedProofs.{texts_of, last_number, judged}

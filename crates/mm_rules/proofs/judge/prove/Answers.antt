@@ -1,6 +1,6 @@
 -- The refusal tells the fault of the proof.
 use Rattle.std.proofs.Common.{◌≡◌, ◌++◌, ◌∷◌, [], List, refl, subst, ap, ◌∙◌}
-use Rattle.mm_text.specs.Statement.{PlainStatement, plain_statement}
+use Rattle.mm_base.specs.Statement.{PlainStatement, plain_statement}
 use Rattle.mm_frame.specs.Sentence.{Sentence, sentence_of}
 use Rattle.mm_step.specs.declared.fault.ProofFault.TheVariants.{Rule}
 use Rattle.mm_rules.specs.declared.rule.Rule.TheVariants as rules

@@ -1,7 +1,7 @@
 -- What was written is what is saved, or why nothing is.
 use Rattle.std.proofs.Common.{map, option_map, refl, ap}
 use Rattle.mm_text.specs.Files.{plain_file}
-use Rattle.mm_text.proofs.Lists.{error_keeps}
+use Rattle.mm_base.proofs.Lists.{error_keeps}
 use Rattle.mm_render.specs.declared.save_fault.SaveFault.TheVariants as fault
 use Rattle.mm_verdict.proofs.Verdicts.AcceptedStatements.{within_limit}
 use Rattle.mm_verdict.proofs.Verdicts.LoopOverStatements.{verdict_told}

@@ -1,7 +1,7 @@
 -- What is told of the steps is told of the theorem.
 use Rattle.std.proofs.Common.{ℕ, List, refl}
 use Rattle.std.proofs.lemmas.Result.{IfOk-weaker}
-use Rattle.mm_text.specs.Statement.{PlainStatement, plain_statement}
+use Rattle.mm_base.specs.Statement.{PlainStatement, plain_statement}
 use Rattle.mm_frame.specs.Sentence.{Sentence}
 use Rattle.mm_rules.specs.Verdict.{proof_of}
 use Rattle.mm_verdict.proofs.Questions.AskedTheorems.{why}

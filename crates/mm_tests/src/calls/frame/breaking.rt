@@ -1,10 +1,11 @@
 //! Which symbol of a statement breaks a rule of meaning.
 
-ghost use Rattle.mm_text.specs.Statement.{plain_statement, HasForm};
+ghost use Rattle.mm_base.specs.Statement.{plain_statement, HasForm};
 
 use crate::calls::frame::taking::{empty_book, read, reader, take};
+use mm_base::{File, Statement};
 use mm_frame::{Book, MeaningRule, RuleFault};
-use mm_text::{File, Statement, Statements};
+use mm_text::Statements;
 use std::alloc::Global;
 use std::test::Fail;
 

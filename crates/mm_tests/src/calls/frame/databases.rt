@@ -1,7 +1,7 @@
 //! The databases of the tests, each as one file.
 
 use crate::databases;
-use mm_text::File;
+use mm_base::File;
 
 /// Terms and formulas, modus ponens in a block, and a theorem: `demo0.mm`.
 pub(crate) const DEMO: [File<'static>; 1] = [File {

@@ -1,14 +1,15 @@
 //! A statement for which memory ran out is taken again, and the book is as one that wanted
 //! none.
 
-ghost use Rattle.mm_text.specs.Statement.{plain_statement, HasForm};
+ghost use Rattle.mm_base.specs.Statement.{plain_statement, HasForm};
 
 use crate::calls::frame::alike::{are_books_alike, find_alike};
 use crate::calls::frame::databases::DEMO;
 use crate::calls::frame::taking::{empty_book, read, reader, take};
 use crate::calls::growths::once_more;
+use mm_base::Statement;
 use mm_frame::{Book, RuleFault, Taken};
-use mm_text::{Statement, Statements};
+use mm_text::Statements;
 use std::alloc::Global;
 use std::test::Fail;
 

@@ -2,8 +2,8 @@
 
 use crate::calls::frame::schemes::is_scheme;
 use crate::calls::frame::taking::{book_of, id_of, name_of, variable_of};
+use mm_base::File;
 use mm_frame::{Book, Found, Hypothesis, LabelId, LabelKind};
-use mm_text::File;
 use std::alloc::Global;
 use std::process::Abort;
 use std::test::Fail;

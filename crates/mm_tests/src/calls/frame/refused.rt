@@ -2,8 +2,9 @@
 
 use crate::calls::frame::alike::{are_books_alike, find_alike};
 use crate::calls::frame::taking::{empty_book, read, reader, take};
+use mm_base::{File, Statement, Token};
 use mm_frame::{Book, MeaningRule, RuleFault, Taken};
-use mm_text::{File, Statement, Statements, Token};
+use mm_text::Statements;
 use std::alloc::Global;
 use std::test::Fail;
 

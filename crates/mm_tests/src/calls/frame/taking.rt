@@ -1,14 +1,15 @@
 //! Books of the first statements of a database, and what they have under a label.
 
 ghost use Rattle.std.specs.Prelude.{◌≡◌, ◌≤◌, IsTrue, length, sum_by, Ok, Err, true};
-ghost use Rattle.mm_text.specs.Statement.{plain_statement, HasForm, bytes_in};
+ghost use Rattle.mm_base.specs.Statement.{plain_statement, HasForm, bytes_in};
 ghost use Rattle.mm_frame.specs.declared.rule.MeaningRule.{MeaningRule};
 ghost use Rattle.mm_frame.specs.declared.answer.RuleFault.TheVariants.{Rule};
 ghost use Rattle.mm_frame.specs.Sentence.{sentence_in};
 ghost use Rattle.mm_frame.specs.Rules.{FirstBroken};
 
+use mm_base::{File, Kind, Seed, Statement, Token};
 use mm_frame::{Book, Found, LabelId, RuleFault, Sym, Taken};
-use mm_text::{File, Kind, Seed, Statement, Statements, Token};
+use mm_text::Statements;
 use std::alloc::Global;
 use std::test::Fail;
 

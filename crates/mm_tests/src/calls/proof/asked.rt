@@ -5,9 +5,9 @@ ghost use Rattle.mm_frame.specs.Sentence.{Sentence};
 ghost use Rattle.mm_step.specs.Steps.{IsProofNumber};
 
 use crate::calls::proof::{Theorem, first_theorem};
+use mm_base::File;
 use mm_distinct::{asked_by, missing_pairs, shared_variables};
 use mm_frame::{Book, Found, Sym};
-use mm_text::File;
 use std::alloc::Global;
 use std::test::Fail;
 

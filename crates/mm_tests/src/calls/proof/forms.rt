@@ -2,7 +2,7 @@
 
 ghost use Rattle.std.specs.Prelude.{◌≡◌, ◌≤◌, ℕ, length, take, false, IfOk, OnOk};
 ghost use Rattle.std.specs.List.{sum_by};
-ghost use Rattle.mm_text.specs.Files.{most_bytes};
+ghost use Rattle.mm_base.specs.MostBytes.{most_bytes};
 ghost use Rattle.mm_frame.specs.Sentence.{Sentence};
 ghost use Rattle.mm_forms.specs.OneTree.{MakeOneTree};
 ghost use Rattle.mm_step.specs.Steps.{AreSteps, IsProofNumber};
@@ -12,12 +12,12 @@ ghost use Rattle.mm_code.specs.Layout.{texts};
 use crate::calls::proof::{JOINED, SHARED, Theorem, first_theorem, joined};
 use crate::databases::HEAD;
 use crate::doublings::TWENTY_FOUR;
+use mm_base::File;
 use mm_code::Code;
 use mm_forms::{Packed, compress, expand, same};
 use mm_frame::{Book, LabelId};
 use mm_proof::{Parsed, Steps, verify};
 use mm_step::{ExpandFault, Flat, Profile};
-use mm_text::File;
 use std::alloc::{AllocError, Global};
 use std::process::Abort;
 use std::test::Fail;

@@ -4,7 +4,7 @@
 ghost use Rattle.std.specs.Prelude.{◌≡◌, ◌<◌, ◌≤◌, ◌-◌, ◌++◌, ◌∷◌, [], ℕ, List, length, take};
 ghost use Rattle.std.specs.Prelude.{slice_get, false, IsTrue, OnOk, Some};
 ghost use Rattle.std.specs.List.{sum_by};
-ghost use Rattle.mm_text.specs.Files.{most_bytes};
+ghost use Rattle.mm_base.specs.MostBytes.{most_bytes};
 ghost use Rattle.mm_frame.specs.Sentence.{Sentence};
 ghost use Rattle.mm_forms.specs.OneTree.{MakeOneTree};
 ghost use Rattle.mm_step.specs.Steps.{AreSteps, IsProofNumber};
@@ -16,11 +16,11 @@ use crate::calls::growths::once_more;
 use crate::calls::proof::forms::{LABELS, NUMBERS, accepted_steps, is_packed};
 use crate::calls::proof::{Theorem, first_theorem};
 use crate::databases::DEMO;
+use mm_base::File;
 use mm_forms::{Packed, compress};
 use mm_frame::{Book, LabelId, Sym};
 use mm_proof::Steps;
 use mm_step::{Flat, Rows, Store};
-use mm_text::File;
 use std::alloc::Global;
 use std::test::Fail;
 

@@ -2,17 +2,17 @@
 
 ghost use Rattle.std.specs.Prelude.{◌≡◌, ◌≤◌, ℕ, length, IfOk};
 ghost use Rattle.std.specs.List.{sum_by};
-ghost use Rattle.mm_text.specs.Files.{most_bytes};
+ghost use Rattle.mm_base.specs.MostBytes.{most_bytes};
 ghost use Rattle.mm_frame.specs.Sentence.{Sentence};
 ghost use Rattle.mm_step.specs.Steps.{AreSteps, IsProofNumber};
 ghost use Rattle.mm_code.specs.Layout.{texts};
 
 use crate::calls::proof::{Theorem, assertion, first_theorem, joined};
+use mm_base::File;
 use mm_frame::{Book, LabelId, Sym};
 use mm_listing::{Halt, HaltAt, Line, Name, halt_of};
 use mm_proof::{Parsed, Steps};
 use mm_step::{Profile, ProofRule};
-use mm_text::File;
 use std::alloc::Global;
 use std::process::Abort;
 use std::test::Fail;

@@ -2,18 +2,18 @@
 
 ghost use Rattle.std.specs.Prelude.{◌≤◌, ℕ, length};
 ghost use Rattle.std.specs.List.{sum_by};
-ghost use Rattle.mm_text.specs.Files.{most_bytes};
+ghost use Rattle.mm_base.specs.MostBytes.{most_bytes};
 ghost use Rattle.mm_frame.specs.Sentence.{Sentence};
 ghost use Rattle.mm_step.specs.Steps.{IsProofNumber};
 ghost use Rattle.mm_code.specs.Layout.{texts};
 
 use crate::calls::proof::asked::variable;
 use crate::calls::proof::{Theorem, first_theorem, joined};
+use mm_base::File;
 use mm_distinct::lacking_pairs;
 use mm_frame::Sym;
 use mm_proof::{Parsed, Steps};
 use mm_step::Profile;
-use mm_text::File;
 use std::alloc::Global;
 use std::test::Fail;
 

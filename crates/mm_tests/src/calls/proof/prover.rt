@@ -1,17 +1,18 @@
 //! One proof after the other in the same memory, incomplete ones among them.
 
 ghost use Rattle.std.specs.Prelude.{◌≡◌, ◌++◌, ◌∷◌, [], ℕ, IfOk, IfSome};
-ghost use Rattle.mm_text.specs.Statement.{plain_statement, HasForm};
+ghost use Rattle.mm_base.specs.Statement.{plain_statement, HasForm};
 ghost use Rattle.mm_frame.specs.Sentence.{Sentence, sentence_in};
 ghost use Rattle.mm_frame.specs.Taken.{TakenAs};
 ghost use Rattle.mm_step.specs.Steps.{IsProofNumber};
 
 use crate::calls::proof::{ROOM, bytes_of, joined, read_next, reader, theorem_number};
 use crate::databases::HEAD;
+use mm_base::{File, Kind, Seed, Statement};
 use mm_frame::{LabelId, Taken};
 use mm_proof::{Proved, Prover};
 use mm_step::{Profile, ProofFault, ProofRule};
-use mm_text::{File, Kind, Seed, Statement, Statements};
+use mm_text::Statements;
 use std::alloc::Global;
 use std::process::Abort;
 use std::test::Fail;

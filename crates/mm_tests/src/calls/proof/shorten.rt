@@ -2,20 +2,20 @@
 
 ghost use Rattle.std.specs.Prelude.{◌≤◌, ℕ, length};
 ghost use Rattle.std.specs.List.{sum_by};
-ghost use Rattle.mm_text.specs.Files.{most_bytes};
+ghost use Rattle.mm_base.specs.MostBytes.{most_bytes};
 ghost use Rattle.mm_frame.specs.Sentence.{Sentence};
 ghost use Rattle.mm_step.specs.Steps.{IsProofNumber};
 ghost use Rattle.mm_code.specs.Layout.{texts};
 
 use crate::calls::growths::once_more;
 use crate::calls::proof::{Theorem, first_theorem, uses_in};
+use mm_base::{File, Seed};
 use mm_frame::{Book, Found, LabelId, Sym};
 use mm_listing::UsedSteps;
 use mm_shorten::{
     Aim, BYTE, Budget, Edge, Entry, Expressions, Graph, Library, Origin, Reach, Rests, Shared,
     Size, choice_budget, choose_text, goals_of, search_budget, step_price,
 };
-use mm_text::{File, Seed};
 use std::alloc::{AllocError, Global};
 use std::test::Fail;
 

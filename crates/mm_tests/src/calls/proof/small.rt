@@ -2,7 +2,7 @@
 
 ghost use Rattle.std.specs.Prelude.{◌≤◌, ℕ, length};
 ghost use Rattle.std.specs.List.{sum_by};
-ghost use Rattle.mm_text.specs.Files.{most_bytes};
+ghost use Rattle.mm_base.specs.MostBytes.{most_bytes};
 ghost use Rattle.mm_frame.specs.Sentence.{Sentence};
 ghost use Rattle.mm_step.specs.Steps.{IsProofNumber};
 ghost use Rattle.mm_code.specs.Layout.{texts};
@@ -10,9 +10,9 @@ ghost use Rattle.mm_code.specs.Layout.{texts};
 use crate::calls::proof::forms::{accepted_steps, is_packed};
 use crate::calls::proof::{SHARED, Theorem, first_theorem, joined};
 use crate::databases::HEAD;
+use mm_base::File;
 use mm_forms::{Packed, compress_small};
 use mm_proof_laws::{no_better_order, one_small, small_is_no_larger, some_small};
-use mm_text::File;
 use std::alloc::Global;
 use std::process::Abort;
 use std::test::Fail;

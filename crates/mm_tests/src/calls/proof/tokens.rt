@@ -2,15 +2,15 @@
 
 ghost use Rattle.std.specs.Prelude.{◌≤◌, ℕ, length};
 ghost use Rattle.std.specs.List.{sum_by};
-ghost use Rattle.mm_text.specs.Files.{most_bytes};
+ghost use Rattle.mm_base.specs.MostBytes.{most_bytes};
 ghost use Rattle.mm_frame.specs.Sentence.{Sentence};
 ghost use Rattle.mm_step.specs.Steps.{IsProofNumber};
 ghost use Rattle.mm_code.specs.Layout.{texts};
 
 use crate::calls::proof::{SHARED, Theorem, first_theorem};
+use mm_base::File;
 use mm_proof::Steps;
 use mm_step::{Profile, ProofFault, ProofRule};
-use mm_text::File;
 use std::alloc::Global;
 use std::test::Fail;
 

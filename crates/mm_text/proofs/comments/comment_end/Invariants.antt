@@ -1,8 +1,8 @@
 use Rattle.std.proofs.Common.{◌≡◌, ◌<◌, ◌≤◌, ◌-◌, length}
-use Rattle.mm_text.specs.Token.{plain_token}
+use Rattle.mm_base.specs.Token.{plain_token}
 use Rattle.mm_text.specs.Mirror.Position.{IsPosition, IsSameFile, comment_at}
 use Rattle.mm_text.proofs.comments.comment_end.Given as goal
-use Rattle.mm_text.specs.Files.{most_bytes}
+use Rattle.mm_base.specs.MostBytes.{most_bytes}
 
 -- what was passed leaves a comment open
 abbrev pub invariant-parts : goal.invariant-parts

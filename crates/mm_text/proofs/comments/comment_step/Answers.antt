@@ -1,6 +1,6 @@
 use Rattle.std.proofs.Common.{refl, sym, ◌∙◌, ◌+◌, arith}
 use Rattle.std.proofs.lemmas.Bool.{and_parts}
-use Rattle.mm_text.specs.Token.{plain_token}
+use Rattle.mm_base.specs.Token.{plain_token}
 use Rattle.mm_text.proofs.Tokens.WordsAndComments.{comment_token, passed_all, in_comment-illegal}
 use Rattle.mm_text.proofs.Tokens.WordsAndComments.{in_comment-close, in_comment-mark}
 use Rattle.mm_text.proofs.Tokens.WordsAndComments.{in_comment-more, token_printable, token_illegal}

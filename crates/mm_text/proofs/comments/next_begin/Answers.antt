@@ -1,6 +1,6 @@
 use Rattle.std.proofs.Common.{refl, ◌+◌, arith}
 use Rattle.std.proofs.lemmas.Bool.{or_right}
-use Rattle.mm_text.specs.Token.{plain_token}
+use Rattle.mm_base.specs.Token.{plain_token}
 use Rattle.mm_text.proofs.Tokens.WordsAndComments.{begins_at, later_position, legal_behind_mark}
 use Rattle.mm_text.proofs.comments.next_begin.Goals as goal
 

@@ -1,8 +1,9 @@
 use Rattle.std.proofs.Common.{sym, ap, ◌∙◌, arith, codes}
 use Rattle.std.specs.Cmp.Lexicographic.{bytes_decides}
 use Rattle.std.proofs.lemmas.Result.{err_from_is_err_and}
-use Rattle.mm_text.specs.Token.{PlainToken, plain_token}
-use Rattle.mm_text.specs.Items.{without_comments, holds_dollar, spells}
+use Rattle.mm_base.specs.Token.{PlainToken, plain_token}
+use Rattle.mm_text.specs.Items.{without_comments, holds_dollar}
+use Rattle.mm_base.specs.Spelling.{spells}
 use Rattle.mm_text.proofs.Tokens.WordsAndComments.{tokens_from-end, outside_token, outside-end}
 use Rattle.mm_text.proofs.Tokens.WordsAndComments.{outside-illegal, outside-close, outside-begin}
 use Rattle.mm_text.proofs.Tokens.WordsAndComments.{outside-clear, token_printable, token_illegal}

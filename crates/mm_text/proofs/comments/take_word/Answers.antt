@@ -1,5 +1,5 @@
 use Rattle.std.proofs.Common.{◌≡◌, ◌∷◌, None, false, sym, ap, ◌∙◌, arith}
-use Rattle.mm_text.specs.Token.{PlainToken, plain_token}
+use Rattle.mm_base.specs.Token.{PlainToken, plain_token}
 use Rattle.mm_text.specs.Items.{Clear, without_comments, holds_dollar}
 use Rattle.mm_text.proofs.Tokens.WordsAndComments.{outside_token, outside-clear, no_dollar-spells}
 use Rattle.mm_text.proofs.Tokens.WordsAndComments.{token_printable, tokens_from-step}

@@ -1,5 +1,6 @@
 use Rattle.std.proofs.Common.{◌≡◌, ◌+◌, drop, map}
-use Rattle.mm_text.specs.Files.{most_bytes, plain_file, total_bytes}
+use Rattle.mm_base.specs.MostBytes.{most_bytes}
+use Rattle.mm_text.specs.Files.{plain_file, total_bytes}
 use Rattle.mm_text.proofs.handed.is_within_limit.Given as goal
 
 -- the files so far hold what is no longer left

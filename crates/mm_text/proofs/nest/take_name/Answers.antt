@@ -1,7 +1,7 @@
 use Rattle.std.proofs.Common.{sym, ap, ◌∙◌}
 use Rattle.std.proofs.lemmas.Result.{err_from_is_err_and}
 use Rattle.mm_text.specs.declared.comments.Position.{Position}
-use Rattle.mm_text.specs.Token.{plain_token}
+use Rattle.mm_base.specs.Token.{plain_token}
 use Rattle.mm_text.specs.Items.{Naming, Closing, pieces}
 use Rattle.mm_text.specs.Mirror.Position.{shown_at}
 use Rattle.mm_text.proofs.Inclusions.FilePieces.{naming-dollar, naming-name, closing-other}

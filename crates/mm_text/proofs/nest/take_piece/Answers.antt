@@ -1,5 +1,5 @@
 use Rattle.std.proofs.Common.{◌≡◌, false, [], ◌∷◌, sym, ap, ◌∙◌}
-use Rattle.mm_text.specs.Token.{plain_token}
+use Rattle.mm_base.specs.Token.{plain_token}
 use Rattle.mm_text.specs.declared.class.Class.TheVariants as class
 use Rattle.mm_text.specs.Items.{Outside, pieces, Met, End, holds_dollar}
 use Rattle.mm_text.specs.declared.comments.Position.{Position}

@@ -1,6 +1,6 @@
 use Rattle.std.proofs.Common.{◌≡◌, length, refl, sym, ap, ◌∙◌, arith}
 use Rattle.std.proofs.lemmas.List.{length-map}
-use Rattle.mm_text.specs.Statement.{plain_statement}
+use Rattle.mm_base.specs.Statement.{plain_statement}
 use Rattle.mm_text.specs.Mirror.Reader.{InBody, has_count}
 use Rattle.mm_text.proofs.Reader.OneToken.{step_not_ended, step_too_few, step_whole, step_to_proof}
 use Rattle.mm_text.proofs.Reader.OneToken.{gives_faulty, gives_same, same_more, gives_whole}

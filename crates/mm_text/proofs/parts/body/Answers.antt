@@ -1,5 +1,5 @@
 use Rattle.std.proofs.Common.{refl, ◌∙◌}
-use Rattle.mm_text.specs.Statement.{plain_statement}
+use Rattle.mm_base.specs.Statement.{plain_statement}
 use Rattle.mm_text.specs.Mirror.Reader.{InBody}
 use Rattle.mm_text.specs.Mirror.Steps.{plain_scope}
 use Rattle.mm_text.proofs.Reader.OneToken.{gives_err, answers_refused}

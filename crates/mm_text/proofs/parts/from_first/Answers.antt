@@ -1,5 +1,5 @@
 use Rattle.std.proofs.Common.{None, refl, ap, ◌∙◌}
-use Rattle.mm_text.specs.Token.{plain_token}
+use Rattle.mm_base.specs.Token.{plain_token}
 use Rattle.mm_text.specs.Mirror.Class.{keyword_bytes}
 use Rattle.mm_text.specs.Mirror.Next.{items_with}
 use Rattle.mm_text.specs.Mirror.Reader.{Between}

@@ -1,5 +1,5 @@
 use Rattle.std.proofs.Common.{None, refl, sym, ap, ◌∙◌}
-use Rattle.mm_text.specs.Token.{plain_token}
+use Rattle.mm_base.specs.Token.{plain_token}
 use Rattle.mm_text.specs.Mirror.Reader.{Between, InBody, reading_of}
 use Rattle.mm_text.specs.Mirror.Steps.{plain_scope}
 use Rattle.mm_text.proofs.Reader.OneToken.{start_by, start_keyword, gives_same, gives_faulty}

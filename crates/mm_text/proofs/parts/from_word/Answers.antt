@@ -1,5 +1,5 @@
 use Rattle.std.proofs.Common.{None, refl, sym, ◌∙◌}
-use Rattle.mm_text.specs.Token.{plain_token}
+use Rattle.mm_base.specs.Token.{plain_token}
 use Rattle.mm_text.specs.Mirror.Reader.{Between}
 use Rattle.mm_text.proofs.Reader.OneToken.{step_label, step_no_label, symbol-is_keyword, gives_same}
 use Rattle.mm_text.proofs.Reader.OneToken.{gives_faulty, same_more}

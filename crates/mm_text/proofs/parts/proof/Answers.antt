@@ -1,6 +1,6 @@
 use Rattle.std.proofs.Common.{refl, sym, ◌∙◌}
-use Rattle.mm_text.specs.Token.{plain_token}
-use Rattle.mm_text.specs.Statement.{plain_statement}
+use Rattle.mm_base.specs.Token.{plain_token}
+use Rattle.mm_base.specs.Statement.{plain_statement}
 use Rattle.mm_text.specs.Mirror.Reader.{InProof}
 use Rattle.mm_text.specs.Mirror.Steps.{plain_scope}
 use Rattle.mm_text.proofs.Reader.OneToken.{step_ends_proof, step_in_proof, gives_same, gives_faulty}

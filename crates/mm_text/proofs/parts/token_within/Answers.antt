@@ -1,5 +1,5 @@
 use Rattle.std.proofs.Common.{inl, inr}
-use Rattle.mm_text.specs.Token.{plain_token}
+use Rattle.mm_base.specs.Token.{plain_token}
 use Rattle.mm_text.specs.Mirror.Steps.{plain_scope}
 use Rattle.mm_text.proofs.Reader.OneToken.{answers_wrong, answers_inclusion, answers_end}
 use Rattle.mm_text.proofs.Reader.OneToken.{answers_nothing}

@@ -1,4 +1,4 @@
-use Rattle.mm_text.specs.Statement.{plain_statement}
+use Rattle.mm_base.specs.Statement.{plain_statement}
 use Rattle.mm_text.specs.Mirror.Reader.{InProof}
 use Rattle.mm_text.proofs.Reader.OneToken.{answers_refused, reads_err}
 use Rattle.mm_text.proofs.parts.words_of_proof.Goals as goal

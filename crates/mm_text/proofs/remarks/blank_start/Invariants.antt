@@ -1,5 +1,5 @@
 use Rattle.std.proofs.Common.{◌≡◌, ℕ, ◌≤◌, ◌<◌, get_or, true}
-use Rattle.mm_text.specs.Token.{is_space}
+use Rattle.mm_base.specs.Token.{is_space}
 use Rattle.mm_text.proofs.remarks.blank_start.Given as goal
 
 -- what was passed is white space

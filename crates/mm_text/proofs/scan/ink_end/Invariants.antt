@@ -1,5 +1,5 @@
 use Rattle.std.proofs.Common.{◌≡◌, ℕ, ◌<◌, ◌≤◌, get_or, false}
-use Rattle.mm_text.specs.Token.{is_space}
+use Rattle.mm_base.specs.Token.{is_space}
 use Rattle.mm_text.proofs.scan.ink_end.Given as goal
 
 -- no byte so far is white space

@@ -1,5 +1,5 @@
 use Rattle.std.proofs.Common.{◌≡◌, ◌+◌, ◌<◌, ◌≤◌, ℕ, length, get_or, true, false, ◌∙◌, sym, arith}
-use Rattle.mm_text.specs.Token.{is_space}
+use Rattle.mm_base.specs.Token.{is_space}
 use Rattle.mm_text.proofs.Tokens.WordsAndComments.{tokens_from-token, space_after}
 use Rattle.mm_text.proofs.Tokens.WordBytes.{lacks_dollar, high_ink, high_word}
 use Rattle.mm_text.proofs.scan.short_word_end.Goals as goal

@@ -1,5 +1,5 @@
 use Rattle.std.proofs.Common.{◌≡◌, ℕ, ◌≤◌, ◌<◌, drop, get_or, true}
-use Rattle.mm_text.specs.Token.{is_space, tokens_from}
+use Rattle.mm_base.specs.Token.{is_space, tokens_from}
 use Rattle.mm_text.proofs.scan.skip_space.Given as goal
 
 -- what was stepped over is white space

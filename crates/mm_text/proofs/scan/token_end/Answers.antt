@@ -1,7 +1,7 @@
 use Rattle.std.proofs.Common.{◌≡◌, ◌<◌, ◌≤◌, ◌==◌, ℕ, List, get_or, true, false, ⊎_elim, ◌∙◌, sym}
 use Rattle.std.proofs.Common.{arith}
 use Rattle.std.proofs.str.Laws.{order}
-use Rattle.mm_text.specs.Token.{is_space}
+use Rattle.mm_base.specs.Token.{is_space}
 use Rattle.mm_text.proofs.Tokens.WordsAndComments.{tokens_from-token, space_after}
 use Rattle.mm_text.proofs.Tokens.WordBytes.{lacks_dollar, has_dollar, high_ink, high_word, run_on}
 use Rattle.mm_text.proofs.scan.token_end.Goals as goal

@@ -1,5 +1,5 @@
 use Rattle.std.proofs.Common.{◌≡◌, ℕ, ◌<◌, ◌≤◌, ◌==◌, ◌-◌, length, get_or, false}
-use Rattle.mm_text.specs.Token.{is_space}
+use Rattle.mm_base.specs.Token.{is_space}
 use Rattle.mm_text.proofs.scan.token_end.Given as goal
 
 -- no byte of the token so far is white space or a `$`

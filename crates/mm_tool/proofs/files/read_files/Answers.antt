@@ -1,7 +1,7 @@
 use Rattle.std.proofs.Common.{◌++◌, ◌∷◌, [], map, arith, sym, subst, ◌∙◌, ap}
 use Rattle.std.proofs.lemmas.List.{map-append}
 use Rattle.std.specs.List.{AllZip}
-use Rattle.mm_text.proofs.Lists.{all_push, zip_push, error_keeps}
+use Rattle.mm_base.proofs.Lists.{all_push, zip_push, error_keeps}
 use Rattle.mm_tool.specs.Folder.{IsHeld, plain_read}
 use Rattle.mm_tool.specs.ReadFiles.{IsReadAs}
 use Rattle.mm_tool.proofs.FilesRead.{comes_next, file_fault_at, more_bytes, more_names}

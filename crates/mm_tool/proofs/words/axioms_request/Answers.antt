@@ -1,7 +1,7 @@
 -- The words ask on which axioms each theorem rests, or one; or no file follows the label.
 use Rattle.std.proofs.Common.{List, map, refl, sym, ap, codes}
 use Rattle.clap.specs.Words.{Row, Text, found_of, rows_of}
-use Rattle.mm_text.proofs.Lists.{error_keeps}
+use Rattle.mm_base.proofs.Lists.{error_keeps}
 use Rattle.mm_tool.specs.Words.{Commands, IsWordFault}
 use Rattle.mm_tool.proofs.AskedWords.{axioms_asked, files_refused}
 use Rattle.mm_tool.proofs.words.axioms_request.Goals as goal

@@ -3,7 +3,7 @@ use Rattle.std.proofs.Common.{List, refl}
 use Rattle.clap.specs.Words.{Text}
 use Rattle.mm_tool.specs.Words.{AreMatchesOf, IsWordFault}
 use Rattle.mm_tool.proofs.AskedWords.{commands_met, none_there, not_commanded}
-use Rattle.mm_text.proofs.Lists.{error_keeps}
+use Rattle.mm_base.proofs.Lists.{error_keeps}
 use Rattle.mm_tool.proofs.words.form_request.Goals as goal
 
 pub returns-in_err-proof_request-clause-fault : goal.returns-in_err-proof_request-clause-fault

@@ -2,7 +2,7 @@
 -- named.
 use Rattle.std.proofs.Common.{IsTrue, List, ap, map, refl, rules, codes}
 use Rattle.clap.specs.Words.{Row, Text, found_of, rows_of}
-use Rattle.mm_text.proofs.Lists.{error_keeps}
+use Rattle.mm_base.proofs.Lists.{error_keeps}
 use Rattle.mm_tool.specs.Words.{Commands, IsWordFault}
 use Rattle.mm_tool.proofs.AskedWords.{few_refused, file_asked, flags_refused, list_asked}
 use Rattle.mm_tool.proofs.AskedWords.{name_refused}

@@ -1,6 +1,6 @@
 -- The reading is one, so what is left at first is the statements of the files.
 use Rattle.std.proofs.Common.{List, map, None, sym, subst}
-use Rattle.mm_text.specs.Statement.{PlainStatement, plain_statement}
+use Rattle.mm_base.specs.Statement.{PlainStatement, plain_statement}
 use Rattle.mm_text.specs.Files.{plain_file}
 use Rattle.mm_rules.specs.Shown.{Stands}
 use Rattle.mm_verdict.proofs.Verdicts.AcceptedStatements.{same_reading}

@@ -1,6 +1,6 @@
 -- The statement that is sought is met before the end.
 use Rattle.std.proofs.Common.{Bool, true, subst}
-use Rattle.mm_text.specs.Statement.{PlainStatement, plain_statement}
+use Rattle.mm_base.specs.Statement.{PlainStatement, plain_statement}
 use Rattle.mm_verdict.specs.Mirror.Judged.{TakesNext}
 use Rattle.mm_verdict.proofs.Verdicts.AcceptedStatements.{sought_on, sought_found}
 use Rattle.mm_verdict.proofs.reread.seek.Goals as goal

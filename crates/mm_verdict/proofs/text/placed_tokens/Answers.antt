@@ -1,7 +1,7 @@
 -- White space is passed over, and a word is taken.
 use Rattle.std.proofs.Common.{List, map, sym, ap, subst, ◌∙◌, refl}
 use Rattle.std.proofs.lemmas.List.{map-append}
-use Rattle.mm_text.specs.Token.{PlainToken, plain_token}
+use Rattle.mm_base.specs.Token.{PlainToken, plain_token}
 use Rattle.mm_verdict.specs.Mirror.Comparisons.{ArePrefixTokens}
 use Rattle.mm_verdict.proofs.Questions.TextTokens.{prefix_none, prefix_passed, prefix_taken}
 use Rattle.mm_verdict.proofs.Questions.TextTokens.{prefix_all}

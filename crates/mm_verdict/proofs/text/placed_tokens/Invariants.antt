@@ -1,6 +1,6 @@
 -- The tokens so far are those of the prefix of the text.
 use Rattle.std.proofs.Common.{length, map}
-use Rattle.mm_text.specs.Token.{plain_token}
+use Rattle.mm_base.specs.Token.{plain_token}
 use Rattle.mm_verdict.specs.Mirror.Comparisons.{ArePrefixTokens}
 use Rattle.mm_verdict.proofs.text.placed_tokens.Given as goal
 

@@ -1,6 +1,6 @@
 -- They are the texts of the tokens with their positions.
 use Rattle.std.proofs.Common.{map, ap, ◌∙◌}
-use Rattle.mm_text.specs.Token.{plain_token}
+use Rattle.mm_base.specs.Token.{plain_token}
 use Rattle.mm_code.specs.Words.{texts_of}
 use Rattle.mm_code.proofs.ReadBack.{texts_in}
 use Rattle.mm_verdict.proofs.text.tokens_of.Goals as goal

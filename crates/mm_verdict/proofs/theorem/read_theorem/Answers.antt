@@ -1,5 +1,5 @@
 -- The steps are those that the tokens say, and so they prove the theorem.
-use Rattle.mm_text.specs.Statement.{plain_statement}
+use Rattle.mm_base.specs.Statement.{plain_statement}
 use Rattle.mm_rules.specs.Verdict.{proof_of}
 use Rattle.mm_verdict.specs.Mirror.Theorems.{SayStepsOf}
 use Rattle.mm_verdict.proofs.Questions.AskedTheorems.{steps_prove}

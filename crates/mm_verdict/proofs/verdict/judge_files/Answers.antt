@@ -1,7 +1,7 @@
 -- The files can't be taken, or their statements are judged.
 use Rattle.std.proofs.Common.{map}
 use Rattle.mm_text.specs.Files.{plain_file}
-use Rattle.mm_text.proofs.Lists.{error_keeps}
+use Rattle.mm_base.proofs.Lists.{error_keeps}
 use Rattle.mm_verdict.proofs.Verdicts.LoopOverStatements.{load_stops}
 use Rattle.mm_verdict.proofs.verdict.judge_files.Goals as goal
 

@@ -1,8 +1,8 @@
 -- The course of checking, turn by turn.
 use Rattle.std.proofs.Common.{List, ◌++◌, map, refl, ap}
-use Rattle.mm_text.specs.Statement.{PlainStatement, plain_statement}
+use Rattle.mm_base.specs.Statement.{PlainStatement, plain_statement}
 use Rattle.mm_text.specs.Files.{PlainFile, plain_file}
-use Rattle.mm_text.proofs.Lists.{error_keeps}
+use Rattle.mm_base.proofs.Lists.{error_keeps}
 use Rattle.mm_rules.specs.Mirror.Judged.{fault_of}
 use Rattle.mm_rules.specs.Mirror.Visits.{IsMet, refusals_in}
 use Rattle.mm_verdict.proofs.Verdicts.LoopOverStatements.{goes_on, meets, met_last, stopped_at}

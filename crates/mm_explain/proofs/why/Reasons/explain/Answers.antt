@@ -4,7 +4,7 @@ use Rattle.std.proofs.Common.{◌∙◌, append-nil}
 use Rattle.std.specs.Prelude.{option_map}
 use Rattle.std.specs.Borrow.{Bor}
 use Rattle.std.proofs.lemmas.Result.{on_ok_weaker}
-use Rattle.mm_text.specs.Statement.{PlainStatement, plain_statement}
+use Rattle.mm_base.specs.Statement.{PlainStatement, plain_statement}
 use Rattle.mm_text.specs.Files.{PlainFile, plain_file}
 use Rattle.mm_facts.specs.Explained.{details_text}
 use Rattle.mm_explain.specs.Later.{stated_later}

@@ -3,7 +3,7 @@ use Rattle.std.proofs.Common.{List, Option, ℕ, ◌++◌, map, ap, ◌∙◌}
 use Rattle.std.specs.Prelude.{option_map}
 use Rattle.std.specs.Option.{option_to_list}
 use Rattle.std.proofs.lemmas.Result.{on_ok_weaker}
-use Rattle.mm_text.specs.Token.{PlainToken, plain_token}
+use Rattle.mm_base.specs.Token.{PlainToken, plain_token}
 use Rattle.mm_text.specs.Files.{PlainFile, plain_file}
 use Rattle.mm_facts.specs.Explained.{details_text, stated_later_at}
 use Rattle.mm_explain.specs.Mirror.Reasons.{AreLabelsIn}

@@ -1,5 +1,5 @@
 -- A refusal is kept and may be explained, and another statement is passed over.
-use Rattle.mm_text.specs.Statement.{plain_statement}
+use Rattle.mm_base.specs.Statement.{plain_statement}
 use Rattle.mm_explain.proofs.Explanations.{refused_last, noted, passed_over}
 use Rattle.mm_explain.proofs.why.ReasonsVisitor.see.Goals as goal
 

@@ -1,6 +1,6 @@
 use Rattle.std.proofs.Common.{rules, ◌≡◌, ℕ, List, length, arith, vec_len}
 use Rattle.std.proofs.lemmas.Slice.Zip.{AllZip-long}
-use Rattle.mm_text.proofs.Lists.{zip_push}
+use Rattle.mm_base.proofs.Lists.{zip_push}
 use Rattle.mm_frame.specs.declared.number.LabelId.{LabelId}
 use Rattle.mm_step.specs.Tree.{spelling, beside}
 use Rattle.mm_forms.specs.Spelled.{IsNumberOfLabel}

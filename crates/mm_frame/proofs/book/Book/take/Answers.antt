@@ -1,6 +1,6 @@
 use Rattle.std.proofs.Common.{arith}
 use Rattle.std.proofs.lemmas.List.{length-map}
-use Rattle.mm_text.specs.Token.{plain_token}
+use Rattle.mm_base.specs.Token.{plain_token}
 use Rattle.mm_frame.proofs.BookLists.Declarations.{bytes_enough}
 use Rattle.mm_frame.proofs.book.Book.take.Goals as goal
 

@@ -1,5 +1,5 @@
 use Rattle.std.proofs.Common.{◌∙◌}
-use Rattle.mm_text.proofs.Lists.{contains_from_at}
+use Rattle.mm_base.proofs.Lists.{contains_from_at}
 use Rattle.mm_frame.proofs.BookLists.SymbolsAndLabels.{fresh_name}
 use Rattle.mm_frame.proofs.tables.Tables.add_symbol.Goals as goal
 

@@ -1,5 +1,5 @@
 use Rattle.std.proofs.Common.{refl, ◌∙◌, [], ◌∷◌, ◌++◌, None, arith, ◌≤◌, length}
-use Rattle.mm_text.specs.declared.statement.Kind.TheVariants.{Closing}
+use Rattle.mm_base.specs.declared.statement.Kind.TheVariants.{Closing}
 use Rattle.mm_frame.specs.Sentence.{Sentence}
 use Rattle.mm_frame.specs.Mirror.Layout.{statements_of}
 use Rattle.mm_frame.proofs.BookLists.UnlabelledStatements.{adds_block, close_grows, closing_ready}

@@ -1,7 +1,7 @@
 use Rattle.std.proofs.Common.{rules, ◌≡◌, length, refl, sym, ap, ◌∙◌, subst, arith}
 use Rattle.std.proofs.lemmas.List.{length-map}
-use Rattle.mm_text.specs.Token.{plain_token}
-use Rattle.mm_text.specs.Statement.{plain_statement}
+use Rattle.mm_base.specs.Token.{plain_token}
+use Rattle.mm_base.specs.Statement.{plain_statement}
 use Rattle.mm_frame.specs.Mirror.Declaring.{TakesSymbols}
 use Rattle.mm_frame.proofs.BookLists.GrownLists.{on_err, same_tables}
 use Rattle.mm_frame.proofs.Rules.RepeatedSymbols.{texts, texts_of}

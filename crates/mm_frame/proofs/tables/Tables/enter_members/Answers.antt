@@ -1,5 +1,5 @@
 use Rattle.std.proofs.Common.{◌≡◌, ◌++◌, [], ◌∷◌, ℕ, length, None, ap, ◌∙◌, if◌then◌else◌}
-use Rattle.mm_text.specs.declared.statement.Kind.TheVariants.{Distinct}
+use Rattle.mm_base.specs.declared.statement.Kind.TheVariants.{Distinct}
 use Rattle.mm_frame.specs.Mirror.Grows.{entry_of}
 use Rattle.mm_frame.proofs.tables.Tables.enter_members.Goals as goal
 

@@ -1,7 +1,7 @@
 use Rattle.std.proofs.Common.{◌≡◌, sym, ◌∙◌, ap, rules, slice_get, ℕ, List, Some, subst, MatchOption}
 use denote.Enum.Bare.{same_true}
-use Rattle.mm_text.specs.contracts.statement.Kind.{the_type}
-use Rattle.mm_text.specs.declared.statement.Kind.TheVariants.{Floating}
+use Rattle.mm_base.specs.contracts.statement.Kind.{the_type}
+use Rattle.mm_base.specs.declared.statement.Kind.TheVariants.{Floating}
 use Rattle.mm_frame.proofs.Frames.FrameTypings.{kind_at, typing_says}
 use Rattle.mm_frame.proofs.tables.Tables.floating_variable.Goals as goal
 use Rattle.mm_frame.specs.Sentence.{Types}

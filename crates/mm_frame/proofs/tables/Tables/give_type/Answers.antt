@@ -1,5 +1,5 @@
 use Rattle.std.proofs.Common.{refl, sym, ap, ◌∙◌, ◌≡◌, length, [], Some, None, arith, slice_get, subst}
-use Rattle.mm_text.specs.declared.statement.Kind.TheVariants.{Floating}
+use Rattle.mm_base.specs.declared.statement.Kind.TheVariants.{Floating}
 use Rattle.mm_frame.specs.declared.answer.Taken.TheVariants.{Hypothesis}
 use Rattle.mm_frame.proofs.BookLists.GrownLists.{on_err, same_tables}
 use Rattle.mm_frame.proofs.BookLists.LabelledStatements.{IsWritten, few_labels, next_number}

@@ -1,7 +1,7 @@
 use Rattle.std.proofs.Common.{◌≡◌, sym, ◌∙◌, ap, rules, Some, subst, slice_get}
 use denote.Enum.Bare.{same_true}
-use Rattle.mm_text.specs.contracts.statement.Kind.{the_type}
-use Rattle.mm_text.specs.declared.statement.Kind.TheVariants.{Floating}
+use Rattle.mm_base.specs.contracts.statement.Kind.{the_type}
+use Rattle.mm_base.specs.declared.statement.Kind.TheVariants.{Floating}
 use Rattle.mm_frame.proofs.Frames.FrameTypings.{kind_at, typing_says}
 use Rattle.mm_frame.specs.FrameIndex.{IsTypingOf}
 use Rattle.mm_frame.specs.Mirror.Layout.{statements_of}

@@ -1,7 +1,7 @@
 -- The steps use numbers of labels.
 use Rattle.std.proofs.Common.{◌≡◌, ◌<◌, ℕ, List, length, sym, ap, subst}
 use Rattle.std.specs.List.{AllByRecursion}
-use Rattle.mm_text.proofs.Lists.{all_within}
+use Rattle.mm_base.proofs.Lists.{all_within}
 use Rattle.mm_frame.specs.Numbers.{labelled_sentences}
 use Rattle.mm_frame.proofs.Names.LabelNumbers.{numbered_within}
 use Rattle.mm_rules.specs.Conclusion.{Conclusion}

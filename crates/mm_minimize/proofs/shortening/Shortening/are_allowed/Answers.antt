@@ -5,7 +5,7 @@ use Rattle.std.proofs.lemmas.Option.{slice_get-get_or}
 use Rattle.mm_frame.specs.Numbers.{labelled_sentences}
 use Rattle.mm_frame.specs.declared.number.LabelId.{LabelId}
 use Rattle.mm_frame.proofs.Names.NameNumbers.{get_mapped}
-use Rattle.mm_text.proofs.Lists.{all_at}
+use Rattle.mm_base.proofs.Lists.{all_at}
 use Rattle.mm_minimize.specs.Mirror.Shortening.{IsAllowedIn}
 use Rattle.mm_minimize.proofs.ShorterTheorems.ShorterProofs.{all_more}
 use Rattle.mm_minimize.proofs.shortening.Shortening.are_allowed.Goals as goal

@@ -1,7 +1,7 @@
 -- What is told of the steps is told of the theorem.
 use Rattle.std.proofs.Common.{◌≡◌, ◌<◌, ℕ, List, length, map, sym, ap, subst}
 use Rattle.std.specs.List.{AllByRecursion}
-use Rattle.mm_text.proofs.Lists.{all_within}
+use Rattle.mm_base.proofs.Lists.{all_within}
 use Rattle.mm_frame.specs.Numbers.{labelled_sentences}
 use Rattle.mm_frame.specs.Sentence.{Sentence}
 use Rattle.mm_frame.specs.declared.number.LabelId.{LabelId}

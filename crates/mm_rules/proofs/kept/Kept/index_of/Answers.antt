@@ -3,7 +3,7 @@ use Rattle.std.proofs.Common.{◌≡◌, ◌<◌, ◌+◌, ◌-◌, ◌/◌, ℕ
 use Rattle.std.proofs.lemmas.List.{length-map}
 use Rattle.std.proofs.lemmas.Option.{slice_get_within}
 use Rattle.mm_frame.proofs.Names.NameNumbers.{get_mapped}
-use Rattle.mm_text.proofs.Lists.{get_within}
+use Rattle.mm_base.proofs.Lists.{get_within}
 use Rattle.mm_rules.specs.Conclusion.{ProofUses, numbers_of}
 use Rattle.mm_rules.proofs.NumberBounds.{bounds_above, bounds_below, bounds_empty}
 use Rattle.mm_rules.proofs.kept.Kept.index_of.Goals as goal

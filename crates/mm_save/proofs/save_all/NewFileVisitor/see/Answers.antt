@@ -1,5 +1,5 @@
 -- A theorem of the file is written, and another statement is passed over.
-use Rattle.mm_text.specs.Statement.{PlainStatement, plain_statement}
+use Rattle.mm_base.specs.Statement.{PlainStatement, plain_statement}
 use Rattle.mm_save.proofs.Saving.FileSpans.{theorem_complete, theorem_home}
 use Rattle.mm_save.proofs.Saving.WrittenFiles.{theorem_met, span_stands, span_follows, written_on}
 use Rattle.mm_save.proofs.Saving.WrittenFiles.{passed_by}

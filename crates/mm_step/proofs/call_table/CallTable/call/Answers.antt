@@ -1,5 +1,5 @@
 use Rattle.std.proofs.Common.{◌≡◌, ◌<◌, ℕ, List, Some, slice_get, length, sym, subst, arith}
-use Rattle.mm_text.proofs.Lists.{get_within}
+use Rattle.mm_base.proofs.Lists.{get_within}
 use Rattle.mm_step.specs.declared.call.Call.{Call}
 use Rattle.mm_step.specs.Plain.{ids_in}
 use Rattle.mm_step.specs.Mirror.CodeSteps.{MayBeUsed}

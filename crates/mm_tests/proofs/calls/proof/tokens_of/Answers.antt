@@ -2,10 +2,10 @@
 use Rattle.std.proofs.Common.{◌≡◌, ℕ, ◌+◌, ◌≤◌, List, [], ◌∷◌, map, length, refl, sym, ap, ◌∙◌, arith}
 use Rattle.std.specs.List.{sum_by}
 use Rattle.std.proofs.lemmas.List.Sums.{sum_by-cons}
-use Rattle.mm_text.specs.declared.token.Token.{Token}
-use Rattle.mm_text.specs.Token.{PlainToken, plain_token}
-use Rattle.mm_text.specs.Statement.{PlainStatement, plain_statement, bytes_in}
-use Rattle.mm_text.specs.Files.{most_bytes}
+use Rattle.mm_base.specs.declared.token.Token.{Token}
+use Rattle.mm_base.specs.Token.{PlainToken, plain_token}
+use Rattle.mm_base.specs.Statement.{PlainStatement, plain_statement, bytes_in}
+use Rattle.mm_base.specs.MostBytes.{most_bytes}
 use Rattle.mm_code.specs.Layout.{texts}
 use Rattle.mm_tests.proofs.calls.proof.tokens_of.Goals as goal
 

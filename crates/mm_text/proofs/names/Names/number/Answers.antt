@@ -1,6 +1,6 @@
 use Rattle.std.proofs.Common.{ap, ◌∙◌}
 use Rattle.mm_text.specs.declared.names.Name.{Name}
-use Rattle.mm_text.specs.Items.{spells}
+use Rattle.mm_base.specs.Spelling.{spells}
 use Rattle.mm_text.specs.Mirror.Names.{number_among}
 use Rattle.mm_text.proofs.Inclusions.OpenFiles.{position-names}
 use Rattle.mm_text.proofs.names.Names.number.Goals as goal

@@ -2,7 +2,7 @@
 use Rattle.std.proofs.Common.{◌≡◌, ℕ, List, map, true, None, sym, ap, subst}
 use Rattle.std.proofs.lemmas.Result.{IfOk-weaker}
 use Rattle.std.specs.Borrow.{Bor}
-use Rattle.mm_text.specs.Statement.{PlainStatement, plain_statement}
+use Rattle.mm_base.specs.Statement.{PlainStatement, plain_statement}
 use Rattle.mm_text.specs.Files.{plain_file}
 use Rattle.mm_text.specs.Reading.{Reads}
 use Rattle.mm_rules.specs.Conclusion.{Conclusion}
@@ -10,7 +10,7 @@ use Rattle.mm_verdict.specs.declared.theorem.Theorem.{Theorem}
 use Rattle.mm_rules.specs.Verdict.{CanBeRead, is_proof, sentences}
 use Rattle.mm_rules.specs.Rests.{IsNamed}
 use Rattle.mm_verdict.specs.Mirror.Theorems.{SayStepsOf, AreStepsOf}
-use Rattle.mm_text.proofs.Lists.{error_keeps}
+use Rattle.mm_base.proofs.Lists.{error_keeps}
 use Rattle.mm_verdict.proofs.Verdicts.AcceptedStatements.{AreOf, own_statements, read_statements}
 use Rattle.mm_verdict.proofs.Verdicts.AcceptedStatements.{shown_proof, proof_fits, theorem_steps}
 use Rattle.mm_verdict.proofs.Verdicts.AcceptedStatements.{KeptWell}

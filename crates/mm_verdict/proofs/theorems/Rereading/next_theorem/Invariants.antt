@@ -1,6 +1,6 @@
 -- What was read since is no theorem.
 use Rattle.std.proofs.Common.{List, length}
-use Rattle.mm_text.specs.Statement.{PlainStatement}
+use Rattle.mm_base.specs.Statement.{PlainStatement}
 use Rattle.mm_verdict.specs.Mirror.Rereading.{HasPassed, IsReadTo}
 use Rattle.mm_verdict.proofs.theorems.Rereading.next_theorem.Given as goal
 

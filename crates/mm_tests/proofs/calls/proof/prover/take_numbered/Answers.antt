@@ -1,6 +1,6 @@
 -- The statement was taken last, and is a `$p`.
 use Rattle.std.proofs.Common.{length}
-use Rattle.mm_text.specs.Statement.{PlainStatement, plain_statement}
+use Rattle.mm_base.specs.Statement.{PlainStatement, plain_statement}
 use Rattle.mm_frame.specs.Sentence.{sentence_of}
 use Rattle.mm_tests.proofs.LastTaken.{last_number}
 use Rattle.mm_tests.proofs.calls.proof.prover.take_numbered.Goals as goal

@@ -46,10 +46,10 @@ pub struct Statement<'a> {
 }
 
 impl<'a> Statement<'a> {
-    ghost use Rattle.mm_text.specs.Token.{plain_token};
-    ghost use Rattle.mm_text.specs.Statement.{plain_statement};
-    ghost use Rattle.mm_text.specs.Mirror.Reader.{bare_statement};
-    ghost use Rattle.mm_text.specs.Empty.{no_statement, without_tokens};
+    ghost use Rattle.mm_base.specs.Token.{plain_token};
+    ghost use Rattle.mm_base.specs.Statement.{plain_statement};
+    ghost use Rattle.mm_base.specs.Begun.{bare_statement};
+    ghost use Rattle.mm_base.specs.Empty.{no_statement, without_tokens};
 
     /// A statement to read into, with empty lists. It takes no memory.
     pub fn empty(alloc: Global) -> Statement<'a>
@@ -70,7 +70,7 @@ impl<'a> Statement<'a> {
     }
 
     /// Empties the lists, which keep their room.
-    pub(crate) fn clear(&mut self)
+    pub fn clear(&mut self)
         ensures { plain_statement self.new ≡ without_tokens (plain_statement self.old) }
     {
         self.symbols.clear();
@@ -78,7 +78,7 @@ impl<'a> Statement<'a> {
     }
 
     /// Begins a statement, with no symbols yet. The lists keep their room.
-    pub(crate) fn begin(&mut self, kind: Kind, first: Token<'a>, label: Option<Token<'a>>)
+    pub fn begin(&mut self, kind: Kind, first: Token<'a>, label: Option<Token<'a>>)
         ensures { plain_statement self.new
             ≡ bare_statement kind (plain_token first.entry) (option_map plain_token label.entry) }
     {

@@ -2,7 +2,7 @@
 use Rattle.std.specs.Prelude.{ℕ, fold}
 use Rattle.std.specs.Hash.{u64}
 use Rattle.std.specs.Hash.FoldHasher.{initial, write}
-use Rattle.mm_text.specs.declared.seed.Seed.{Seed}
+use Rattle.mm_base.specs.declared.seed.Seed.{Seed}
 
 -- the seed with a number: hashes begin from a hasher that was given its bytes, the lowest first
 abbrev pub seed_of : ℕ → Seed

@@ -1,7 +1,7 @@
 -- Statements with empty lists.
 use Rattle.std.specs.Prelude.{[], None}
-use Rattle.mm_text.specs.declared.statement.Kind.TheVariants.{Constants}
-use Rattle.mm_text.specs.Statement.{PlainStatement}
+use Rattle.mm_base.specs.declared.statement.Kind.TheVariants.{Constants}
+use Rattle.mm_base.specs.Statement.{PlainStatement}
 
 -- the statement that is handed in to be read into
 abbrev pub no_statement : PlainStatement

@@ -1,7 +1,7 @@
 //! Where the hashes of names begin.
 
 ghost use Rattle.std.specs.Prelude.{◌≡◌};
-ghost use Rattle.mm_text.specs.Seed.{known_number, seed_of};
+ghost use Rattle.mm_base.specs.Seed.{known_number, seed_of};
 
 use std::hash::{BuildHasher, FoldHasher, Hasher};
 

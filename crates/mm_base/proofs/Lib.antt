@@ -1,0 +1,5 @@
+pub mod Lists
+pub mod TokensByByte
+pub mod TokensFrom
+pub mod NoneThere
+pub mod LabelBytes
