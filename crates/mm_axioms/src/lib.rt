@@ -1,4 +1,8 @@
 //! What theorems rest on, and what rests on them.
+//! It answers `axioms` of one theorem and of all, `direct_users` and `all_users`, from the uses
+//! that the verdict keeps of each proof. It stands on `mm_verdict` alone. Begin with
+//! `asked_axioms`, then `report` and `rows`; what a theorem rests on is defined in
+//! `specs/Rests.antt` of `mm_rules`.
 #![tactic(auto)]
 
 mod all_axioms;

@@ -1,4 +1,7 @@
-//! Statements and their tokens, and the seed of hashes: what a reader gives, and all crates above it take.
+//! What a reader gives and all crates above it take: files, tokens, statements, the seed of hashes.
+//! It answers nothing by itself. It stands on no other crate, so that the meaning of statements
+//! doesn't stand on how they are read. Begin with `statement`; what its fields mean is in
+//! `specs/Statement.antt`.
 #![tactic(auto)]
 
 mod file;

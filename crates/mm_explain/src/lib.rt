@@ -1,4 +1,7 @@
-//! Explanations of faults.
+//! Explanations of faults: `mm why`, and `mm try` for a proof that is handed in.
+//! It answers `explained`, which tells each fault of a database with its place and its facts, also
+//! those of the text (`text_fault`) and of meaning (`collision`). It stands on `mm_verdict` and
+//! `mm_facts`. Begin with `why`; what an explanation is stands in `specs/Why.antt`.
 #![tactic(auto)]
 
 mod breach;

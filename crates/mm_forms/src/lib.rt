@@ -1,4 +1,7 @@
-//! The forms of a proof: normal, fully shared, packed and small.
+//! The forms of a proof: normal, fully shared, packed and small; and whether two proofs are one.
+//! It answers `expand`, `compress`, `compress_small` and `same`. It stands on `mm_proof`. Begin
+//! with `packing`: a proof's steps are run on a `Builder`, which gives equal subtrees one number.
+//! What a form is stands in `specs/Packing.antt` and `specs/SmallProofs.antt`.
 #![tactic(auto)]
 
 mod builder;

@@ -1,4 +1,8 @@
 //! The meaning of statements: names and scopes, the rules of meaning, and frames.
+//! It answers whether a statement obeys the rules of meaning where it stands, what a name is there,
+//! and the frame of an assertion. It stands on `mm_base` alone. Begin with `book`: `Book::take`
+//! judges a statement and takes it in, the other methods answer. What a rule demands is in
+//! `specs/Rules.antt`, what a frame is in `specs/Frame.antt`.
 #![tactic(auto)]
 
 mod answer;

@@ -1,4 +1,7 @@
-//! The steps of a proof, listed: what each gives, where its entries come from, and where it halts.
+//! The steps of a proof, listed: what each gives, which steps it uses, and where a faulty one
+//! stops.
+//! It answers `listing`, `uses_of` and `halt_of`, each a run of the steps on a machine of its own.
+//! It stands on `mm_proof`. Begin with `lines`; what a line tells is in `specs/Listing.antt`.
 #![tactic(auto)]
 
 mod halt;

@@ -1,4 +1,6 @@
-//! Where a proof that is at fault has its fault: the place of a move, of a label, of a letter.
+//! Where a proof that is at fault has its fault: the place of a step, of a label, of a letter.
+//! It answers `move_place` for a fault of one step, and `whole_place` for a fault of the whole
+//! proof. It stands on `mm_proof`; only explanations ask it. Begin with `places`.
 #![tactic(auto)]
 
 mod form_places;

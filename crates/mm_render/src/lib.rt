@@ -1,4 +1,7 @@
-//! Proofs and statements as texts.
+//! Statements and proofs as texts: listings, the forms of a proof, a file with one proof replaced.
+//! It answers the questions `statement`, `show`, `normal`, `packed`, `small` and `same` of a
+//! `Checked`. It stands on `mm_verdict`, `mm_forms` and `mm_listing`. Begin with `asked_texts`,
+//! which has a function for each question.
 #![tactic(auto)]
 
 mod asked_texts;

@@ -1,4 +1,7 @@
-//! Saving proofs in their files.
+//! Files in which proofs are written anew.
+//! It answers `saved`, with the proof of one theorem replaced, and `saved_all`, with those of all;
+//! each other byte is kept. It stands on `mm_render`. Begin with `save`, then `save_all`; what a
+//! saved file is stands in `specs/Saved.antt` of `mm_render` and in `specs/AllSaved.antt`.
 #![tactic(auto)]
 
 mod save;

@@ -1,4 +1,8 @@
-//! One step of a proof: what it takes and gives, on a stack of expressions.
+//! One step of a proof: what it takes from a stack of expressions and what it gives, or its fault.
+//! It answers whether an assertion may be applied (substitution, hypotheses, distinct variables,
+//! the limits of a profile). It stands on `mm_frame` and `mm_code`. Begin with `step`, then
+//! `apply`; P11 and P12 are judged in `pairs`. What a substitution is stands in
+//! `specs/Substitution.antt`.
 #![tactic(auto)]
 
 mod apply;

@@ -1,4 +1,8 @@
 //! The reader: the files of a Metamath database, cut into tokens and statements.
+//! It answers `Statements::read`, one statement after the other, or the text's first fault, by rule
+//! and place; and what comments say of a statement, and the bytes of files without their comments.
+//! It stands on `mm_base` alone; of the crates of proofs none stands on it. Begin with
+//! `statements`, and with `specs/Reading.antt`, which says what is read.
 #![tactic(auto)]
 
 mod class;

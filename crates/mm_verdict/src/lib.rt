@@ -1,4 +1,7 @@
-//! The verdict over a database, and what is asked of one in which nothing is at fault.
+//! The verdict over a database, and the database in which nothing is at fault.
+//! It answers `check_with`, whose contract is the headline, and `all_faults`; a `Checked` is what
+//! the questions of the crates above are asked of. It stands on `mm_rules`. Begin with `verdict`,
+//! then `checked`; the proof that there is one verdict is in `proofs/Verdicts/OneVerdict.antt`.
 #![tactic(auto)]
 
 mod checked;

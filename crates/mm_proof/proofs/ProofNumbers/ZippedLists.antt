@@ -2,8 +2,6 @@
 use Rattle.std.proofs.Common.{◌≡◌, ℕ, suc, ◌<◌, List, [], ◌∷◌, length}
 use Rattle.std.proofs.Common.{get_or, arith}
 use Rattle.std.specs.List.{AllZip}
-use denote.Param.Members.{Mut}
-use denote.Ref.{Bor}
 
 -- ---- two lists, index by index
 

@@ -2,7 +2,7 @@
 use Rattle.std.proofs.Common.{◌≡◌, ℕ, List, take, slice_get, true, not, ◌&&◌, Some, refl, sym, ap}
 use Rattle.std.proofs.Common.{subst, ◌∙◌, ◌+◌, ◌-◌, ◌<◌, ◌≤◌, ◌↔◌, ◌++◌, map}
 use Rattle.std.proofs.Common.{length, slice_set, slice_index_or, Option, None, Result, Ok, inl, inr}
-use Rattle.std.proofs.Common.{arith, length-append, []}
+use Rattle.std.proofs.Common.{arith, length-append}
 use Rattle.mm_base.specs.declared.statement.Kind.TheVariants.{Axiom, Provable}
 use Rattle.mm_base.specs.Statement.{PlainStatement, is_provable}
 use Rattle.mm_frame.specs.Sentence.{Sentence, sentence_of, IsLabelled}

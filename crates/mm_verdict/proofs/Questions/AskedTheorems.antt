@@ -48,7 +48,6 @@ use Rattle.mm_step.specs.Steps.{IsNumberedMove}
 use Rattle.mm_proof.specs.Verified.{OfMoves}
 use Rattle.mm_step.proofs.ByNumbers.OneIndex.{one_index}
 use Rattle.mm_proof.proofs.ProofNumbers.NumberedLabels.{one_move}
-use Rattle.mm_rules.specs.declared.rule.AskRule.TheVariants.{L2}
 use Rattle.mm_verdict.specs.Mirror.Theorems.{IsProofOf, SayStepsOf, AreProvedSteps, AreStepsOf}
 use Rattle.mm_frame.specs.declared.number.LabelKind.TheVariants as label_kinds
 use Rattle.mm_step.specs.declared.fault.ExpandFault.TheVariants as expand
