@@ -1,5 +1,5 @@
 -- Who uses an assertion, and who rests on it. What proofs use, and what a theorem rests on, are
--- those of `Rests`.
+-- those of `Rests` of `mm_rules`.
 use Rattle.std.specs.Prelude.{◌≡◌, ◌↔◌, ℕ, List, Contains, Bool, true, false}
 use Rattle.mm_base.specs.declared.statement.Kind.TheVariants.{Axiom}
 use Rattle.mm_base.specs.Statement.{PlainStatement}

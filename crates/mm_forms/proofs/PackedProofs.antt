@@ -4,7 +4,7 @@
 -- what the loops know. `ChosenSteps`: steps that share what is worth a tag alone, made of those
 -- that share all. `WrittenProofs`: a tree's labels, and its packed tokens, are a proof of what it
 -- derives, in strict form. Clauses of `compress`, `compress_both` and `same` rest on it, and what
--- `mm_check` saves.
+-- `mm_save` writes.
 pub mod LabelWidths
 pub mod SubtreeNumbers
 pub mod PackingLoops

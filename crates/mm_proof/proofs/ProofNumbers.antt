@@ -1,9 +1,7 @@
--- Steps of a proof and what trees derive, by names, as the definitions have them; no number of the
--- code stands here. Begin with `OneStep`: a step as a relation on stacks, which makes one thing
--- only. `Derivations`: what trees derive their spelling does, and moves make one row of trees.
--- `Replacements`: what the entries of hypotheses replace. `PassedMoves`: a move that breaks no
--- rule carries passed moves on, and each prefix of passed moves has passed. `DeclaredSymbols`: the
--- symbols of the entries are declared. `ProofVerdicts` stands on them.
+-- Labels, moves and symbols of a proof, by numbers and by names. Begin with `NumberedLabels`:
+-- labels by their numbers, and a whole proof at its statement's. `DeclaredSymbols`: the symbols of
+-- the entries are declared. `UsedAssertions`: the assertions of a tree are those of the moves that
+-- make it. What one step does by numbers is in `ByNumbers` of `mm_step`.
 pub mod DeclaredSymbols
 pub mod NamedAssertions
 pub mod NumberedLabels

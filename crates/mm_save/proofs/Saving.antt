@@ -1,8 +1,7 @@
--- From the tree of a theorem to a file with its proof written anew, and to a file with all of them.
--- Begin with `ProofTexts` for the texts, `PutProofs` for one proof in its file, `ProofsInTurn` for
--- all, `NewProofs` for what is said then, and `FilesUnderWay` for the code. On this room rest the
--- contracts of `saved` and `saved_all`, and the laws that begin with `saving`, `shorten`,
--- `one_saved`, `one_all_saved` and `packed_texts_tell`.
+-- Files in which proofs are written anew, as the code makes them: statement by statement. Begin
+-- with `FilesUnderWay`, on which the proofs of `saved_all` and of shortened files stand.
+-- `FileSpans`: the spans of a file's theorems rise; `ReplacedSpans`: bytes in which several of them
+-- are replaced. What holds of the new files as databases is in `SavingLaws` of `mm_laws`.
 pub mod FileSpans
 pub mod ReplacedSpans
 pub mod FilesUnderWay
