@@ -779,12 +779,11 @@ PATH=$folder/top:$PATH
 export PATH
 typed README.md top
 
-# What it shows of `mm why` is what that prints of the file that it had made.
+# What it shows of `mm why` are lines that it prints, in their order, of the file that it had made.
 awk '/^```/ { is_shown = !is_shown && $0 == "```text"; next } is_shown' "$top/README.md" >shown.txt
 (cd top && mm why bad.mm) >got.out || true
-if ! cmp -s shown.txt got.out; then
+if [ ! -s shown.txt ] || diff shown.txt got.out | grep '^<' >&2; then
     echo "statuses.sh: README.md: mm why bad.mm prints something else" >&2
-    diff shown.txt got.out >&2 || true
     failures=$((failures + 1))
 fi
 
