@@ -8,6 +8,7 @@ from typing import NamedTuple
 
 OVER = 21  # doublings of a symbol: more than an expression may have
 LONG = 13  # doublings of a symbol: a long expression
+LINE = 73  # letters of a compressed proof on a line
 HEAD = "$c |- a b $. $v x y z $. fx $f a x $. fy $f a y $. fz $f a z $.\n"
 
 
@@ -259,6 +260,89 @@ def many_near(folder, size):
     return asked(1, "faults bad.mm", "why bad.mm", f"statement {'x' * 200} f.mm")
 
 
+def long_labels(folder, size):
+    """So many labels of 98 bytes, and ten proofs that name one as long that none has."""
+    labels = (f"{at:098d} $a |- a $.\n" for at in range(size))
+    proofs = (f"t{at} $p |- a $= {at}{'x' * 97} $.\n" for at in range(10))
+    write(folder, "bad.mm", HEAD, labels, proofs)
+    return asked(1, "faults bad.mm", "why bad.mm")
+
+
+def alike_labels(folder, size):
+    """So many labels of 98 bytes that differ in their last bytes alone, and ten proofs that name one
+    as long that is far from all of them only there."""
+    labels = (f"{'l' * 90}{at:08d} $a |- a $.\n" for at in range(size))
+    proofs = (f"t{at} $p |- a $= {'l' * 90}xyz{at}wvut $.\n" for at in range(10))
+    write(folder, "bad.mm", HEAD, labels, proofs)
+    return asked(1, "faults bad.mm", "why bad.mm")
+
+
+def in_lines(letters):
+    """Letters of a compressed proof, in lines."""
+    return (f"{letters[at:at + LINE]}\n" for at in range(0, len(letters), LINE))
+
+
+def growing_values(folder, size):
+    """A proof of so many steps in two chains, of whose values each is one symbol longer than the one
+    before."""
+    axioms = "nil $a a a $. cat $a a x y $. put $a |- x $.\n"
+    drop = "${ e $e |- x $. f $e |- y $. drop $a |- a $. $}\n"
+    chain = "A" + "AB" * (size // 4)
+    letters = f"{chain}Z{chain}Z{number(5)}C{number(6)}CD"
+    write(folder, "f.mm", HEAD, axioms, drop, "th $p |- a $= ( nil cat put drop )\n",
+          in_lines(letters), "$.\n")
+    return asked(0, "check f.mm", "show --essential th f.mm", "axioms th f.mm", "small th f.mm",
+                 "minimize th f.mm", "minimize --list f.mm")
+
+
+def growing(folder, size):
+    """A proof of so many steps in two chains, of whose conclusions each is one symbol longer than
+    the one before."""
+    axioms = "nil $a a a $. cat $a a x y $. begin $a |- a $.\n"
+    step = "${ e $e |- x $. step $a |- a x $. $}\n"
+    drop = "${ e1 $e |- x $. e2 $e |- y $. drop $a |- a $. $}\n"
+    length = size // 8
+
+    def chain(first):
+        """The letters of a chain whose first tag is this one. The list is nil, cat, begin, step."""
+        values = "A" * length + "BZ" * (length - 1)
+        tags = "".join(number(first + at) for at in reversed(range(length - 2)))
+        return values + tags + "AC" + "D" * length
+
+    # The values that both chains end in are pushed before them, as `drop` has them first.
+    value = "A" * (length + 1) + "B" * length
+    write(folder, "f.mm", HEAD, axioms, step, drop,
+          "th $p |- a $= ( nil cat begin step drop )\n",
+          in_lines(f"{value}{value}{chain(6)}{chain(6 + length - 1)}E"), "$.\n")
+    return asked(0, "check f.mm", "show --essential th f.mm", "axioms th f.mm", "small th f.mm",
+                 "minimize th f.mm", "minimize --list f.mm")
+
+
+def syntax(folder, size):
+    """So many axioms of one shape, and a theorem by the first."""
+    write(folder, "f.mm", HEAD, (f"x{at} $a a a $.\n" for at in range(size)),
+          "ax $a |- x $. th $p |- a $= x0 ax $.\n")
+    return asked(0, "check f.mm", "axioms --all f.mm", "minimize th f.mm", "minimize --list f.mm")
+
+
+def stars(folder, size):
+    """So many theorems that use one axiom each, every one another, and all of them a first one."""
+    theorems = (f"a{at} $a |- x $. t{at} $p |- x $= fx fx fx a0 fx a{at} mp $.\n"
+                for at in range(1, size))
+    write(folder, "f.mm", HEAD, "a0 $a |- x $.\n",
+          "${ e $e |- x $. f $e |- y $. mp $a |- x $. $}\n", theorems)
+    return asked(0, "check f.mm", "axioms --all f.mm", "users --all a0 f.mm")
+
+
+def mathboxes(folder, size):
+    """So many headings of mathboxes, each with a theorem by the axiom."""
+    boxes = (f"$(\n#*#*\nMathbox for N{at}\n#*#*\n$)\nt{at} $p |- x $= fx ax $.\n"
+             for at in range(size))
+    write(folder, "f.mm", HEAD, "ax $a |- x $.\n", boxes)
+    return asked(0, "check f.mm", "minimize t0 f.mm", f"minimize t{size - 1} f.mm",
+                 "axioms --all f.mm")
+
+
 def texts(folder, size):
     """Faults of the text and of meaning behind so many statements."""
     many = [HEAD, *(f"$( $[ a{at} $a |- x $)\na{at} $a |- x $. ${{ $}}\n" for at in range(size))]
@@ -269,6 +353,14 @@ def texts(folder, size):
     return asked(1, *(f"why {name}.mm" for name in ("open", "close", "end", "twice", "block",
                                                    "symbol", "typed", "same")))
 
+
+# Why the time or the memory of a question grows faster than its bytes, by the case and the command.
+REASONS = {
+    ("distinct", "check"): "a `$d` of n variables states n (n - 1) / 2 pairs, and each is judged",
+    ("distinct", "show"): "as `check`",
+    ("distinct", "statement"): "as `check`; and the reply has a line for each pair",
+    ("distinct", "axioms"): "as `check`",
+}
 
 CASES = [
     ("blocks inside each other, with hypotheses and `$d`", blocks, 20_000),
@@ -288,5 +380,12 @@ CASES = [
     ("bytes of a label and of a symbol", long_names, 5_000_000),
     ("bytes of two labels that are near", near_names, 5_000),
     ("labels as long as one that is sought", many_near, 100),
+    ("labels of 98 bytes, and ten that are sought", long_labels, 20_000),
+    ("labels of 98 bytes that differ at their ends", alike_labels, 20_000),
+    ("steps in two chains of growing values", growing_values, 10_000),
+    ("steps in two chains of growing conclusions", growing, 5_000),
+    ("axioms of one shape", syntax, 40_000),
+    ("theorems, each by an axiom of its own and a first one", stars, 25_000),
+    ("headings of mathboxes", mathboxes, 10_000),
     ("statements before a fault of text or meaning", texts, 50_000),
 ]
