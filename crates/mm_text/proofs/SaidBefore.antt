@@ -3,7 +3,7 @@
 use Rattle.std.proofs.Common.{◌≡◌, ℕ, zero, suc, ◌+◌, ◌-◌, ◌<◌, ◌≤◌, ◌==◌, ◌||◌, ◌&&◌, List, [], ◌∷◌}
 use Rattle.std.proofs.Common.{◌++◌, length, take, drop, get_or, Bool, true, false, cond, refl, sym, ap}
 use Rattle.std.proofs.Common.{◌∙◌, arith, inl, inr, codes, add-zero, zero-add, drop-drop, eq-eqb, ne_eqb}
-use Rattle.std.proofs.Common.{append_assoc}
+use Rattle.std.proofs.Common.{append_assoc, ◌≢◌}
 use Rattle.std.specs.List.{starts_with}
 use Rattle.std.specs.Prelude.{nat_eq}
 use Rattle.std.proofs.lemmas.List.{drop_more, drop_all, take_more}
@@ -62,6 +62,29 @@ spaced-blank (suc count) text at end e within blank stops =
     ap spaced (drop_more text at 0 (omega arith))
     ∙ cond-true (is_space (get_or text at 0)) _ _ (blank at (omega arith) (omega arith))
     ∙ ap behind_space inner
+
+-- where white space begins, a space is said
+behind-first : (text : List ℕ) → (said : List ℕ) × (behind_space text ≡ 32 ∷ said)
+behind-first [] = ([], refl)
+behind-first (b ∷ text) = elim (cases_Bool (b == 32)) [
+  | inl same ↦ (
+    text,
+    cond-true (b == 32) (b ∷ text) (32 ∷ b ∷ text) same
+        ∙ ap (λ x. x ∷ text) (eqb-true b 32 same),
+  )
+  | inr other ↦ (b ∷ text, cond-false (b == 32) (b ∷ text) (32 ∷ b ∷ text) other)
+]
+
+-- so no other byte is
+pub spaced-other : (text said : List ℕ) (at byte : ℕ) → at < length text
+    → is_space (get_or text at 0) ≡ true → byte ≢ 32 → spaced (drop at text) ≢ byte ∷ said
+unfolding spaced
+spaced-other text said at byte within blank other same =
+    let first = behind-first (spaced (drop (at + 1) text)) in
+    let space : spaced (drop at text) ≡ 32 ∷ first.0 =
+    ap spaced (drop_more text at 0 within)
+    ∙ cond-true (is_space (get_or text at 0)) _ _ blank ∙ first.1 in
+    other (cc)
 
 -- ---- words
 
@@ -239,6 +262,6 @@ no_heading bytes at within other =
     ] in
     ap is_heading (drop_more bytes at 0 within)
     ∙ and_left (starts_with nat_eq (b ∷ rest) (codes "$(") && holds (codes "#*#*") (before_mark (drop 2 (b ∷ rest))))
-    (holds (codes "Mathbox for ") (before_mark (drop 2 (b ∷ rest))))
+    (says (codes "Mathbox for ") (before_mark (drop 2 (b ∷ rest))))
     (and_left (starts_with nat_eq (b ∷ rest) (codes "$(")) (holds (codes "#*#*") (before_mark (drop 2 (b ∷ rest))))
     (and_left (36 == b) (starts_with nat_eq rest (codes "(")) first))

@@ -64,11 +64,11 @@ before_mark (b ∷ []) = b ∷ []
 before_mark (b ∷ c ∷ text) = if is_mark b c then [] else b ∷ before_mark (c ∷ text)
 
 -- The heading of a mathbox begins here: a comment with the line that stands over such headings, which
--- says whose mathbox begins.
+-- says whose mathbox begins. White space counts in it as in a mark.
 abbrev pub is_heading : List ℕ → Bool
 is_heading bytes =
     starts_with nat_eq bytes (codes "$(") && holds (codes "#*#*") (before_mark (drop 2 bytes))
-    && holds (codes "Mathbox for ") (before_mark (drop 2 bytes))
+    && says (codes "Mathbox for ") (before_mark (drop 2 bytes))
 
 -- how many such headings begin among so many bytes at the beginning
 unfoldable pub headings : ℕ → List ℕ → ℕ

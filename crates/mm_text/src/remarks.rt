@@ -1,6 +1,7 @@
 //! What comments say of statements: marks in the comment right before one, and its mathbox.
 
 ghost use Rattle.std.specs.Prelude.{◌≡◌, ℕ, ◌+◌, ◌-◌, ◌∷◌, ◌<◌, ◌≤◌, ◌≢◌, ◌↔◌, ◌⊎◌, nat_eq, length};
+ghost use Rattle.std.specs.Prelude.{List};
 ghost use Rattle.std.specs.Prelude.{drop, true, false, slice_index, IfSome, IsTrue, MatchOption};
 ghost use Rattle.std.specs.List.{starts_with};
 ghost use Rattle.mm_base.specs.Token.{is_space};
@@ -10,19 +11,26 @@ ghost use Rattle.mm_text.specs.Remarks.{headings, mathbox_at, IsCommentBefore, I
 use crate::comments::are_mark;
 use crate::scan::{is_space, skip_space};
 
-/// The first byte of what a text says from a position on, where each run of white space counts as
-/// one space, and the position behind it.
-fn first_said(text: &[u8], at: usize) -> (u8, usize)
+/// The position behind a byte that a text says at a position, where each run of white space says one
+/// space; none where the text says another byte there.
+///
+/// White space is passed over only where a space is asked for, so that a long run of it is not gone
+/// through once for each of its bytes.
+fn behind_said(text: &[u8], at: usize, byte: u8) -> Option<usize>
     requires { at < length text.now }
-    ensures after { at < result.1 }
-    ensures within { result.1 ≤ length text.now }
-    ensures first { spaced (drop at text.now) ≡ result.0 ∷ spaced (drop result.1 text.now) }
+    ensures { MatchOption result
+        ((said : List ℕ) → spaced (drop at text.now) ≢ byte ∷ said)
+        (λ after. (at < after) × (after ≤ length text.now)
+        × (spaced (drop at text.now) ≡ byte ∷ spaced (drop after text.now))) }
 {
-    let byte = text[at];
-    if is_space(byte) {
-        return (b' ', skip_space(text, at));
+    let is_blank = is_space(text[at]);
+    if is_blank && byte == b' ' {
+        return Some(skip_space(text, at));
     }
-    (byte, at + 1)
+    if is_blank || text[at] != byte {
+        return None;
+    }
+    Some(at + 1)
 }
 
 /// Whether a text says a sentence from a position on.
@@ -35,10 +43,9 @@ fn says_at(text: &[u8], start: usize, sentence: &[u8]) -> bool
         if at == text.len() {
             return false;
         }
-        let (said, after) = first_said(text, at);
-        if said != *byte {
+        let Some(after) = behind_said(text, at, *byte) else {
             return false;
-        }
+        };
         at = after;
     }
     true
@@ -159,11 +166,11 @@ fn is_heading(bytes: &[u8]) -> bool
         return false;
     }
     let text = before_mark(&bytes[2..]);
-    holds(text, b"#*#*".as_slice()) && holds(text, b"Mathbox for ".as_slice())
+    holds(text, b"#*#*".as_slice()) && says(text, b"Mathbox for ".as_slice())
 }
 
 /// How many headings of mathboxes begin from a position of a file up to another: comments that hold
-/// `#*#*` and `Mathbox for `. So the mathbox of a later position is told from that of an earlier one.
+/// `#*#*` and say `Mathbox for `, where each run of white space counts as one space. So the mathbox of a later position is told from that of an earlier one.
 pub fn headings_between(bytes: &[u8], start: usize, end: usize) -> usize
     requires order { start ≤ end }
     requires within { end ≤ length bytes.now }

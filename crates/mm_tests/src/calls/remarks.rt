@@ -36,12 +36,21 @@ fn reads_marks(rt: HostRuntime) -> Result<(), Fail> {
     Ok(())
 }
 
-/// Two mathboxes, and comments that are no headings of any.
+/// Three mathboxes, and comments that are no headings of any.
 const BOXES: &[u8] = b"$( #*#*# A part. $) a $( Mathbox for no one. $) b\n\
-$(\n#*#*#*#\n  Mathbox for Ann\n#*#*#*#\n$)\nc $( #*#*# Mathbox for Bob $) d";
+$(\n#*#*#*#\n  Mathbox for Ann\n#*#*#*#\n$)\nc $( #*#*# Mathbox for Bob $) d\n\
+$(\n#*#*#*#\n  Mathbox\t\n  for\r\nCyn\n#*#*#*#\n$)\ne $( #*#*# Mathboxfor Dan $) f";
 
 /// The positions of the tokens of this file, and the mathbox of each.
-const PLACES: [(usize, usize); 5] = [(0, 0), (20, 0), (48, 0), (90, 1), (120, 2)];
+const PLACES: [(usize, usize); 7] = [
+    (0, 0),
+    (20, 0),
+    (48, 0),
+    (90, 1),
+    (120, 2),
+    (166, 3),
+    (195, 3),
+];
 
 #[test]
 fn counts_mathboxes(rt: HostRuntime) -> Result<(), Fail> {
@@ -51,6 +60,6 @@ fn counts_mathboxes(rt: HostRuntime) -> Result<(), Fail> {
     }
     let (start, end) = (90, BOXES.len());
     assert!(rt; start <= end);
-    assert_eq!(rt; headings_between(BOXES, start, end), 1);
+    assert_eq!(rt; headings_between(BOXES, start, end), 2);
     Ok(())
 }
