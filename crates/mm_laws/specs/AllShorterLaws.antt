@@ -1,5 +1,5 @@
--- Laws of a file in which proofs were replaced by shorter ones: the verdict is as before, what
--- wasn't replaced is as it was, no theorem rests on more, and the file doesn't grow.
+-- Laws of a file in which proofs were replaced by shorter ones: the verdict under the one profile is
+-- as before, what wasn't replaced is as it was, no theorem rests on more, and the file doesn't grow.
 use Rattle.std.specs.Prelude.{◌≡◌, ◌≤◌, ◌↔◌, ℕ, List, length, take, slice_get, Contains, Bool, Some}
 use Rattle.std.specs.Prelude.{◌⊎◌}
 use Rattle.mm_base.specs.Statement.{PlainStatement}
@@ -60,8 +60,8 @@ pub record SayWithLess (profile : Profile) (files others : List PlainFile)
       → ((n : ℕ) → Contains fewer n → Contains axioms n)
       × ((n : ℕ) → Contains unproved_fewer n → Contains unproved n)
 
--- With the new bytes in place of the old, the files say what they said, and no theorem rests on
--- more.
+-- With the new bytes in place of the old, the files say what they said under the profile by which
+-- the shorter proofs were found, and no theorem rests on more.
 abbrev pub ShorteningChangesNoVerdict : Type 0
 ShorteningChangesNoVerdict =
     (profile : Profile) (duplicates : Bool) (files : List PlainFile)

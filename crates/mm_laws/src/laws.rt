@@ -117,10 +117,11 @@ pub fn small_files_do_not_grow()
     ensures all { AllSmallFilesDoNotGrow }
 {}
 
-/// Putting shorter proofs into a file changes no verdict: with the new bytes in place of the old,
-/// the files say the same and have the same verdicts. Each proof is as it was, or stands in that
-/// file, has the strict form and spells a shorter tree of its theorem. No theorem rests on an axiom
-/// or an unproved theorem on which it didn't rest before.
+/// Putting shorter proofs into a file changes no verdict under the profile that accepts the files and
+/// by which the proofs were found: with the new bytes in place of the old, the files say the same and
+/// have the same verdicts under it. Of the other profile nothing is said. Each proof is as it was, or
+/// stands in that file, has the strict form and spells a shorter tree of its theorem. No theorem
+/// rests on an axiom or an unproved theorem on which it didn't rest before.
 pub fn shortening_changes_no_verdict()
     ensures { ShorteningChangesNoVerdict }
 {}
