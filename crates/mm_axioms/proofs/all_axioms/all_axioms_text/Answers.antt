@@ -8,12 +8,12 @@ use Rattle.mm_axioms.proofs.all_axioms.all_axioms_text.Goals as goal
 
 pub lines_of-requires-clause-kinds : goal.lines_of-requires-clause-kinds
 lines_of-requires-clause-kinds c = λ n h.
-    (c.in_ok-theorems_in.ensures.kinds.each n).0 (subst (λ (ns : List ℕ). Contains ns n) (ap ids_in c.deref.ensures.value) h)
+    (c.in_ok-theorems.ensures.kinds.each n).0 (subst (λ (ns : List ℕ). Contains ns n) (ap ids_in c.deref.ensures.value) h)
 
 pub returns : goal.returns
 returns c =
     IfOk-weaker c.lines_of.result _ _
     (λ text told statements reads.
     let (lines, each, said) = subst (λ (ids : List LabelId). AreLinesOf statements (ids_in ids) text.items) c.deref.ensures.value (told statements reads) in
-    (lines, record { theorems = ids_in c.in_ok-theorems_in.theorems.items; are_theorems = c.in_ok-theorems_in.ensures.told statements reads; each = each }, said))
+    (lines, record { theorems = ids_in c.in_ok-theorems.theorems.items; are_theorems = c.in_ok-theorems.ensures.told statements reads; each = each }, said))
     c.lines_of.ensures

@@ -7,8 +7,8 @@ use Rattle.mm_render.specs.Saved.{IsSaved, FitsSaved, IsSaveFault}
 use Rattle.mm_verdict.proofs.FileBytes.StatementsInFiles.{accepted_of}
 use Rattle.mm_save.proofs.save.saved.Goals as goal
 
-pub returns-in-Ok-answer-clause-saved_file : goal.returns-in-Ok-answer-clause-saved_file
-returns-in-Ok-answer-clause-saved_file c =
+pub returns-in-Ok-answer-clause-saved : goal.returns-in-Ok-answer-clause-saved
+returns-in-Ok-answer-clause-saved c =
     let found = accepted_of Lenient _ c.check.result c.in-Ok.checked c.in-Ok.is c.check.ensures.verdict in
     let kept = c.in-Ok.ensures.files in
     let reads : Reads c.in-Ok.checked.files found.0 None = subst (λ (fs : List PlainFile). Reads fs found.0 None) (sym kept) found.1.reads in (
