@@ -1,6 +1,6 @@
 #!/bin/sh
 # usage: scripts/statuses.sh [--plain] [PROGRAM]
-# Drives the built program, through the launcher or by the absolute path given: each status that it
+# Drives the proved program, through the launcher, or the one at the absolute path given: each status that it
 # can end with, with the bytes of standard output and of standard error, each text that it prints,
 # and the commands of the documents. No contract reaches `main` nor says what the texts are, so this
 # is what tests them. With --plain the program is that of scripts/plain-rust, whose version says so.
@@ -16,15 +16,17 @@ folder=$(mktemp -d)
 trap 'rm -rf "$folder"' EXIT
 trap 'exit 1' HUP INT TERM
 cd "$folder"
+tried=0
 failures=0
 
 # The program is built first, so that no message of the launcher is among the bytes that are
-# compared. A text alone, as the help, would be printed by an old program.
-"$mm" check "$top/examples/first.mm" >/dev/null
+# compared.
+[ $# != 0 ] || "$mm" prove
 
 # ends STATUS OUT ERR WORDS..: the program, run with these words, ends so. The two texts are written
 # by printf's rules.
 ends() {
+    tried=$((tried + 1))
     wanted=$1
     printf "$2" >wanted.out
     printf "$3" >wanted.err
@@ -42,6 +44,7 @@ ends() {
 
 # begins STATUS OUT ERR WORDS..: likewise, of the first lines alone.
 begins() {
+    tried=$((tried + 1))
     wanted=$1
     out=$2
     err=$3
@@ -58,6 +61,7 @@ begins() {
 
 # prints FILE WORDS..: the program, run with these words, prints what the file has, and ends with 0.
 prints() {
+    tried=$((tried + 1))
     wanted=$1
     shift
     status=0
@@ -72,6 +76,7 @@ prints() {
 # watched TOLD WORDS..: the program, run with these words, writes this to standard error where that is
 # a terminal. It is written by printf's rules. Left out where no `script` makes a terminal.
 watched() {
+    tried=$((tried + 1))
     printf "$1" >wanted.txt
     shift
     if ! script -qec true /dev/null </dev/null >got.txt 2>&1; then
@@ -122,6 +127,7 @@ unlike() {
 # misused WORDS..: the program refuses these words with status 2, and standard error says which it
 # takes.
 misused() {
+    tried=$((tried + 1))
     status=0
     "$mm" "$@" >got.out 2>got.err || status=$?
     if [ "$status" != 2 ] || [ -s got.out ] ||
@@ -134,6 +140,7 @@ misused() {
 
 # full STATUS ERR WORDS..: standard output takes nothing, and the program ends so.
 full() {
+    tried=$((tried + 1))
     wanted=$1
     printf "$2" >wanted.err
     shift 2
@@ -148,6 +155,7 @@ full() {
 # mute STATUS OUT WORDS..: standard error takes nothing, and the program ends with this status, and
 # with this line on standard output or none, all the same.
 mute() {
+    tried=$((tried + 1))
     wanted=$1
     out=$2
     shift 2
@@ -181,6 +189,7 @@ literal() {
 
 # narrow FILE COLUMNS: no line of the text has more columns.
 narrow() {
+    tried=$((tried + 1))
     if ! awk -v most="$2" 'length($0) > most { print; bad = 1 } END { exit bad }' "$1" >&2; then
         echo "statuses.sh: these lines have more than $2 columns" >&2
         failures=$((failures + 1))
@@ -256,6 +265,7 @@ faults.mm:5:11: P2: no earlier statement has the label, in the proof of r
 2 faults
 END
 told() {
+    tried=$((tried + 1))
     wanted=$1
     shift
     status=0
@@ -377,9 +387,6 @@ if [ -n "$is_plain" ]; then
     printf 'mm 0.1.0, plain Rust: the source that is proved with %s, compiled by %s\n' \
         "$kit" 'another compiler; nothing is proved on this machine' >version.txt
 else
-    if command -v rt >/dev/null 2>&1; then
-        kit=$(rt version)
-    fi
     printf 'mm 0.1.0, proved with %s\n' "$kit" >version.txt
 fi
 prints version.txt --version
@@ -735,20 +742,22 @@ if [ -w /dev/full ]; then
 fi
 
 # typed DOCUMENT FOLDER: each command of the document, in its order, typed in the folder: each line
-# of a block without a tag, or each loop. One that wants the network, cargo, metamath-exe or its
-# databases, or puts the program elsewhere, is left out. What stands behind `# prints: ` is
+# of a block without a tag, or each loop. One that wants the network, cargo, the kit, metamath-exe or
+# its databases, is of the repository, or puts the program elsewhere, is left out. What stands behind `# prints: ` is
 # compared.
 typed() {
     rm -f command??
     awk '
     /^```/ { is_block = !is_block; is_command = is_block && $0 == "```"; next }
-    !is_command || /^(apt-get|cargo|metamath|ln|scripts\/[a-z-]*) / { next }
+    !is_command { next }
+    /^(apt-get|cargo|cd|git|ln|metamath|rt|\.\/test|\.\/\.ci\/run|(\.\/)?mm prove|scripts\/[a-z-]*)( |$)/ { next }
     /metamath\/databases/ { next }
     !is_loop { count++ }
     { print >(sprintf("command%02d", count)) }
     /^for / { is_loop = 1 }
     /^done/ { is_loop = 0 }' "$top/$1"
     for command in command??; do
+        tried=$((tried + 1))
         if [ ! -e "$command" ]; then
             echo "statuses.sh: $1 has no command" >&2
             failures=$((failures + 1))
@@ -804,6 +813,7 @@ block() {
 
 # shows WHAT WANTED GOT: what a tool that the page speaks of shows of examples/faults.mm.
 shows() {
+    tried=$((tried + 1))
     if [ "$2" != "$3" ]; then
         echo "statuses.sh: docs/USING.md: $1: $3, wanted $2" >&2
         failures=$((failures + 1))
@@ -860,12 +870,14 @@ fi
 # The commands in the text of the documents, which end in several ways: the program understands
 # them, and reads the files that they name.
 (cd "$top" && grep -oh -e '`\./mm [^`]*`' -e '`(cd [^`]*`' \
-    README.md docs/LANGUAGE.md docs/FORMATS.md) | tr -d '`' | sort -u >commands.txt
+    README.md docs/LANGUAGE.md docs/FORMATS.md) | tr -d '`' | grep -v '^\./mm prove' | sort -u \
+    >commands.txt
 if [ ! -s commands.txt ]; then
     echo 'statuses.sh: the documents have no command' >&2
     failures=$((failures + 1))
 fi
 while IFS= read -r command; do
+    tried=$((tried + 1))
     status=0
     (cd top && sh -c "$command") >got.out 2>got.err </dev/null || status=$?
     if [ "$status" = 2 ] || [ "$status" -gt 4 ] ||
@@ -876,8 +888,5 @@ while IFS= read -r command; do
     fi
 done <commands.txt
 
-if [ "$failures" != 0 ]; then
-    echo "statuses.sh: $failures failed" >&2
-    exit 1
-fi
-echo "statuses.sh: the program ends as it should"
+echo "statuses.sh: $((tried > failures ? tried - failures : 0)) passed, $failures failed"
+[ "$failures" = 0 ]

@@ -426,11 +426,11 @@ Example:
 
 const VERSION: &str = "Usage: mm version
 
-Prints the version, and the kit that the program is proved with, as does
-`mm --version`.
+Prints the version, and the logic that the program is proved with, as does
+`mm --version`. Of a program that isn't proved it says so.
 
 Reply:
-  mm VERSION, proved with KIT                                       status 0
+  mm VERSION, proved with Rattle logic HASH                         status 0
 
 Example:
   mm version

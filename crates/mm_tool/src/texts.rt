@@ -228,7 +228,7 @@ Examples:
   mm help check
 ";
 
-const VERSION: &str = "mm 0.1.0, proved with rattle-kit-13b logic dac8208d650f15bf\n";
+const VERSION: &str = "mm 0.1.0, proved with Rattle logic dac8208d650f15bf\n";
 
 // Each long text comes from a call, so that what is proved of a caller doesn't hold its bytes.
 fn help() -> &'static str {
