@@ -76,6 +76,8 @@ stages_of_sources() {
     stage 'lack of memory is told where it was met' scripts/memory.sh
     stage 'each file of definitions and of lemmas says what it has' scripts/heads --check
     stage 'no crate and no chain of crates is too large' scripts/chain --check
+    stage 'the tables of docs/PROVED.md are those of the contracts' scripts/contracts --check
+    stage 'the figure of the crates is that of the sources' scripts/figure --check
     stage 'the edits that the gate does not try can be applied' scripts/edits --check
     stage 'the launcher runs, builds and proves what it should' scripts/launcher.sh
 }
@@ -89,6 +91,7 @@ stages_of() {
     else
         stage 'proved: replies and statuses' scripts/statuses.sh
     fi
+    stage "$kind: the replies of the documents" docs/make-examples --run "$2"
     stage "$kind: the tutorial shows what is printed" scripts/tutorial "$2"
     if [ "$kind" = plain ]; then
         stage 'plain: what is installed and released' scripts/installed.sh "$2"
