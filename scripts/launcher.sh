@@ -31,9 +31,10 @@ cat >"$folder/cargo/cargo" <<'END'
 echo cargo >>"$CALLS/calls"
 [ ! -e "$CALLS/refuse" ] || { echo 'error: no such thing'; exit 101; }
 [ ! -e "$CALLS/slow" ] || exec sleep 20
-mkdir -p "$CARGO_TARGET_DIR/release"
-printf '#!/bin/sh\necho plain "$@"\n' >"$CARGO_TARGET_DIR/release/mm"
-chmod +x "$CARGO_TARGET_DIR/release/mm"
+while [ "$1" != --root ]; do shift; done
+mkdir -p "$2/bin"
+printf '#!/bin/sh\necho plain "$@"\n' >"$2/bin/mm"
+chmod +x "$2/bin/mm"
 END
 cat >"$folder/rt/rt" <<'END'
 #!/bin/sh

@@ -89,21 +89,23 @@ compile() {
         cat "$room/log" >&2
         give_up 'scripts/plain-rust failed'
     fi
-    (cd "$room/package" && CARGO_TARGET_DIR=$room/target exec cargo build --quiet --release \
-        --offline) >"$room/log" 2>&1 &
+    # This finds the program wherever the user's settings have cargo build it.
+    env CARGO_TARGET_DIR="$room/target" cargo install --quiet --offline --root "$room" \
+        --path "$room/package" >"$room/log" 2>&1 &
     child=$!
     if ! wait "$child"; then
         cat "$room/log" >&2
         give_up 'cargo failed'
     fi
-    name_built "$room/target/release/mm" "$plain" || give_up "$top can't be written"
+    name_built "$room/bin/mm" "$plain" || give_up "$top can't be written"
     rm -rf "$room"
     trap - EXIT HUP INT TERM
 }
 
 # Shows how far the proof of a crate is, on one line of a terminal.
 show_progress() {
-    done=$(sed -n 's/^so far: \([0-9]* of [0-9]* functions\).*/: \1/p' "$log" | tail -n 1)
+    done=$(sed -n -e 's/^so far: \([0-9]* of [0-9]* functions\).*/: \1/p' \
+        -e 's/^rt: .*; waiting for it.*/, waiting for another run/p' "$log" | tail -n 1)
     printf '\r\033[Kmm: %s%s, %s s' "$place" "$done" "$(($(date +%s) - start))" >&2
 }
 
