@@ -1,3 +1,5 @@
 pub mod WordBits
 pub mod WordSets
+pub mod ScratchWords
+pub mod RowBounds
 pub mod Resting

@@ -4,3 +4,4 @@ pub mod UsersOf
 pub mod SettledTheorems
 pub mod AllReports
 pub mod FoundedUses
+pub mod RowNumbers

@@ -2,5 +2,7 @@
 -- alone speak of them, and lemmas join them to the definitions, which are the other files of
 -- specs/.
 pub mod Bits
+pub mod Scratch
+pub mod Rows
 pub mod Tables
 pub mod Shortening

@@ -1,42 +1,62 @@
 //! Sets of numbers, as the bits of words, and a search among rising numbers.
 
-ghost use Rattle.std.specs.Prelude.{◌≡◌, ◌↔◌, ◌⊎◌, ◌<◌, ◌≤◌, ◌/◌, ℕ, map, length, Contains, true};
+ghost use Rattle.std.specs.Prelude.{◌≡◌, ◌↔◌, ◌<◌, ℕ, map, length, Contains, true, IsTrue};
 ghost use Rattle.std.specs.Prelude.{IfSome, Some, None, slice_get};
 ghost use Rattle.mm_rules.specs.Rests.{AreRising};
-ghost use Rattle.mm_axioms.specs.Mirror.Bits.{has_bit as has_bit_at};
+ghost use Rattle.mm_axioms.specs.Mirror.Bits.{IsRow, is_bit_of, has_number as has_number_in};
+ghost use Rattle.mm_axioms.specs.Mirror.Bits.{IsPartOf};
 
 use mm_frame::LabelId;
 
-const WORD_BITS: usize = 64;
+pub(crate) const WORD_BITS: usize = 64;
 
-/// Whether a number is in the set.
-pub(crate) fn has_bit(words: &[u64], number: usize) -> bool
-    ensures { result ≡ has_bit_at words.now number }
-{
-    let word = number / WORD_BITS;
-    word < words.len() && (words[word] >> (number % WORD_BITS) as u32) & 1 == 1
+/// A word of a set: its bits are for the 64 numbers from 64 times its index on.
+#[derive(Clone, Copy)]
+pub(crate) struct SetWord {
+    pub index: usize,
+    pub bits: u64,
 }
 
-/// Puts a number into the set.
-pub(crate) fn set_bit(words: &mut [u64], number: usize)
-    requires { number / 64 < length words.old }
-    ensures length { length words.new ≡ length words.old }
-    ensures set { (n : ℕ) → has_bit_at words.new n ≡ true
-        ↔ ((n ≡ number) ⊎ (has_bit_at words.old n ≡ true)) }
+/// Whether a word has the bit of a number.
+pub(crate) fn has_bit(word: SetWord, number: usize) -> bool
+    ensures { result ≡ is_bit_of word number }
 {
-    words[number / WORD_BITS] |= 1 << (number % WORD_BITS) as u32;
+    word.index == number / WORD_BITS && (word.bits >> (number % WORD_BITS) as u32) & 1 == 1
 }
 
-/// Puts the numbers of another set into the set.
-pub fn join(words: &mut [u64], others: &[u64])
-    requires { length others.now ≤ length words.old }
-    ensures length { length words.new ≡ length words.old }
-    ensures joined { (n : ℕ) → has_bit_at words.new n ≡ true
-        ↔ ((has_bit_at words.old n ≡ true) ⊎ (has_bit_at others.now n ≡ true)) }
+/// Whether a number is in a set, which is told by those of its words that aren't 0.
+pub(crate) fn has_number(row: &[SetWord], number: usize) -> bool
+    ensures { result ≡ has_number_in row.now number }
 {
-    for at in 0..others.len() {
-        words[at] |= others[at];
+    for word in row {
+        if has_bit(*word, number) {
+            return true;
+        }
     }
+    false
+}
+
+/// Whether a word has each bit of another one.
+fn is_part_of(word: SetWord, other: SetWord) -> bool
+    ensures { IsTrue result ↔ IsPartOf word other }
+{
+    word.index == other.index && word.bits & other.bits == word.bits
+}
+
+/// Whether each number of a set is in another one.
+pub(crate) fn is_within(row: &[SetWord], others: &[SetWord]) -> bool
+    requires row { IsRow row.now }
+    requires others { IsRow others.now }
+    ensures { IsTrue result ↔ ((n : ℕ) → has_number_in row.now n ≡ true
+        → has_number_in others.now n ≡ true) }
+{
+    let mut found = 0;
+    for other in others {
+        if found < row.len() && is_part_of(row[found], *other) {
+            found += 1;
+        }
+    }
+    found == row.len()
 }
 
 /// The index of a number among rising ones.

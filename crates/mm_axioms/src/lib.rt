@@ -10,6 +10,7 @@ mod asked_axioms;
 mod bits;
 mod report;
 mod rows;
+mod scratch;
 mod users;
 
 pub use all_axioms::{all_axioms_text, push_marked};

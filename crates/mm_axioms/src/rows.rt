@@ -1,149 +1,199 @@
 //! For each theorem the set of those of some assertions that it rests on.
 
-ghost use Rattle.std.specs.Prelude.{◌≡◌, ◌↔◌, ◌⊎◌, ◌<◌, ◌≤◌, ◌+◌, ◌/◌, ◌++◌, [], ◌∷◌, ℕ, map};
-ghost use Rattle.std.specs.Prelude.{length, Contains, true, IfOk, OnOk, Some, slice_get};
-ghost use Rattle.std.specs.Prelude.{slice_index_or, List, IsTrue};
-ghost use Rattle.mm_rules.specs.Rests.{AreRising, AreInOrder, RestsOn};
-ghost use Rattle.mm_axioms.specs.Mirror.Bits.{has_bit as has_bit_at};
+ghost use Rattle.std.specs.Prelude.{◌≡◌, ◌↔◌, ◌⊎◌, ◌<◌, ◌≤◌, ◌+◌, ◌*◌, ◌/◌, ◌++◌, [], ℕ, map};
+ghost use Rattle.std.specs.Prelude.{length, Contains, true, IfOk, OnOk, Some, slice_get, replicate};
+ghost use Rattle.std.specs.Prelude.{List, IsTrue, ◌^◌};
+ghost use Rattle.std.specs.Option.{option_to_list};
+ghost use Rattle.mm_rules.specs.Rests.{AreRising, AreInOrder};
+ghost use Rattle.mm_axioms.specs.Mirror.Bits.{IsRow, has_bit as has_bit_at, words_from};
+ghost use Rattle.mm_axioms.specs.Mirror.Bits.{has_number as has_number_in};
+ghost use Rattle.mm_axioms.specs.Mirror.Rows.{IsRowPut, IsPadded, ReachedBefore, Reaches};
+ghost use Rattle.mm_axioms.specs.Mirror.Rows.{AreNarrow, row_in};
+ghost use Rattle.mm_axioms.specs.declared.bits.SetWord.{SetWord as PlainWord};
 ghost use Rattle.mm_rules.specs.Conclusion.{ProofUses};
-ghost use Rattle.mm_rules.specs.Mirror.Marks.{UsedIn, AreBackward};
+ghost use Rattle.mm_rules.specs.Mirror.Marks.{AreBackward};
 ghost use Rattle.mm_axioms.specs.Mirror.Shortening.{RestsNoFurther};
-ghost use Rattle.mm_axioms.specs.Mirror.Tables.{TellRests};
+ghost use Rattle.mm_axioms.specs.Mirror.Tables.{TellRests, AreReached};
 
-use crate::bits::{has_bit, index_of, join, set_bit};
+use crate::bits::{SetWord, WORD_BITS, has_bit, has_number, index_of, is_within};
+use crate::scratch::Scratch;
 use mm_frame::LabelId;
 use mm_rules::Kept;
 use std::alloc::{AllocError, Global};
 use std::marker::Model;
 
-const WORD_BITS: usize = 64;
-
-/// Sets of indices, as the bits of words: by the number of each theorem, the indices of the
-/// assertions that it rests on.
+/// Sets of indices: by the number of each theorem, the indices of the assertions that it rests on.
+///
+/// A row has those of its words that aren't 0. All rows stand in one list, in their order, and the
+/// bounds of each are two that follow each other. Behind the last row that isn't empty there is
+/// no bound. So there are 16 bytes for each word, and 8 for each label.
 #[derive(Drop)]
 pub(crate) struct Rows {
-    rows: Vec<Vec<u64>>,
+    words: Vec<SetWord>,
+    bounds: Vec<usize>,
 }
 
 impl Model for Rows {
-    ghost use Rattle.std.specs.Prelude.{List, ℕ, map};
+    ghost use Rattle.mm_axioms.specs.Mirror.Rows.{PlainRows, AreBounds};
 
-    ghost Value = { List (List ℕ) };
+    ghost Value = { PlainRows };
 
-    ghost view = { λ r. map (λ row. row.items) r.rows.items };
+    ghost view = { λ r. record { words = r.words.items; bounds = r.bounds.items } };
+
+    ghost invariant = { λ r. AreBounds r.words.items r.bounds.items };
+}
+
+/// Puts a bound at the end, up to so many bounds.
+fn pad(bounds: &mut Vec<usize>, count: usize, bound: usize) -> Result<(), AllocError>
+    requires { length bounds.old.items ≤ count }
+    ensures { OnOk result (IsPadded bounds.old.items bounds.new.items count bound) }
+{
+    for _ in bounds.len()..count {
+        bounds.push(bound)?;
+    }
+    Ok(())
 }
 
 impl Rows {
-    fn new(alloc: Global) -> Rows
-        ensures { result ≡ [] }
+    fn new(alloc: Global) -> Result<Rows, AllocError>
+        ensures count { IfOk result (λ rows. length rows.bounds ≤ 1) }
+        ensures empty { IfOk result (λ rows. (n : ℕ) → row_in rows n ≡ []) }
     {
-        Rows {
-            rows: Vec::new(alloc),
-        }
+        let mut bounds = Vec::new(alloc);
+        bounds.push(0)?;
+        Ok(Rows {
+            words: Vec::new(alloc),
+            bounds,
+        })
     }
 
     /// The row of a number; an empty one where it has none.
-    pub(crate) fn row(&self, number: LabelId) -> &[u64]
-        ensures { result.now ≡ slice_index_or self.now number.0 [] }
+    pub(crate) fn row(&self, number: LabelId) -> &[SetWord]
+        ensures row { result.now ≡ row_in self.now number.0 }
+        ensures words { IsRow result.now }
     {
-        match self.rows.get(number.0 as usize) {
-            Some(row) => row,
+        let at = number.0 as usize;
+        match self.bounds.get(at + 1) {
+            Some(end) => &self.words[self.bounds[at]..*end],
             None => &[],
         }
     }
 
-    /// Puts a row at the end.
-    fn push(&mut self, row: Vec<u64>) -> Result<(), AllocError>
-        ensures { OnOk result (self.new ≡ self.old ++ row.items ∷ []) }
+    /// With the row of one more number, which is told by a set. The set is emptied.
+    fn with_row(self, number: LabelId, set: &mut Scratch) -> Result<Rows, AllocError>
+        requires { length self.bounds ≤ number.0 + 1 }
+        ensures put { IfOk result (λ rows. IsRowPut self number.0 (words_from 0 set.old) rows) }
+        ensures emptied { OnOk result (set.new ≡ replicate (length set.old) 0) }
     {
-        self.rows.push(row)?;
-        Ok(())
-    }
-
-    /// Puts empty rows at the end, up to a number.
-    fn pad(&mut self, alloc: Global, end: LabelId) -> Result<(), AllocError>
-        requires { length self.old ≤ end.0 }
-        ensures length { OnOk result (length self.new ≡ end.0) }
-        ensures same { OnOk result ((n : ℕ)
-            → slice_index_or self.new n [] ≡ slice_index_or self.old n []) }
-    {
-        for _ in self.rows.len()..end.0 as usize {
-            self.push(Vec::new(alloc))?;
+        let Rows {
+            mut words,
+            mut bounds,
+        } = self;
+        let start = words.len();
+        set.drain(&mut words)?;
+        if start < words.len() {
+            pad(&mut bounds, number.0 as usize + 1, start)?;
+            bounds.push(words.len())?;
         }
-        Ok(())
+        Ok(Rows { words, bounds })
     }
 }
 
-/// Puts the index of a number into a row, if it is one of these.
-fn enter_index(row: &mut [u64], numbers: &[LabelId], number: LabelId)
+/// Puts the index of a number into a set, if it is one of these.
+fn enter_index(set: &mut Scratch, numbers: &[LabelId], number: LabelId)
     requires rising { AreRising (map (λ l. l.0) numbers.now) }
-    requires width { length numbers.now / 64 < length row.old }
-    ensures length { length row.new ≡ length row.old }
-    ensures entered { (c x : ℕ) → slice_get (map (λ l. l.0) numbers.now) c ≡ Some x
-        → has_bit_at row.new c ≡ true ↔ ((has_bit_at row.old c ≡ true) ⊎ (number.0 ≡ x)) }
+    requires width { length numbers.now / 64 < length set.old }
+    ensures length { length set.new ≡ length set.old }
+    ensures entered { (c : ℕ) → has_bit_at set.new c ≡ true
+        ↔ ((has_bit_at set.old c ≡ true) ⊎ (slice_get (map (λ l. l.0) numbers.now) c
+        ≡ Some number.0)) }
 {
-    if let Some(at) = index_of(numbers, number) {
-        set_bit(row, at);
+    match index_of(numbers, number) {
+        Some(at) => set.put(SetWord {
+            index: at / WORD_BITS,
+            bits: 1 << (at % WORD_BITS) as u32,
+        }),
+        None => {}
     }
 }
 
-/// Puts into a row what a number reaches: its index, if it is one of these, and what its row holds.
-fn enter(row: &mut [u64], rows: &Rows, numbers: &[LabelId], number: LabelId)
+/// Puts what a number reaches into a set: its index, if it is one of these, and what its row holds.
+fn enter(set: &mut Scratch, rows: &Rows, numbers: &[LabelId], number: LabelId)
     requires rising { AreRising (map (λ l. l.0) numbers.now) }
-    requires width { length numbers.now / 64 < length row.old }
-    requires narrow { length (slice_index_or rows.now number.0 []) ≤ length row.old }
-    ensures length { length row.new ≡ length row.old }
-    ensures entered { (c x : ℕ) → slice_get (map (λ l. l.0) numbers.now) c ≡ Some x
-        → has_bit_at row.new c ≡ true ↔ ((has_bit_at row.old c ≡ true) ⊎ ((number.0 ≡ x)
-        ⊎ (has_bit_at (slice_index_or rows.now number.0 []) c ≡ true))) }
+    requires width { length numbers.now / 64 < length set.old }
+    requires narrow { AreNarrow rows.now (length numbers.now) }
+    ensures length { length set.new ≡ length set.old }
+    ensures entered { (c : ℕ) → has_bit_at set.new c ≡ true
+        ↔ ((has_bit_at set.old c ≡ true) ⊎ ((slice_get (map (λ l. l.0) numbers.now) c
+        ≡ Some number.0) ⊎ (has_number_in (row_in rows.now number.0) c ≡ true))) }
 {
-    enter_index(row, numbers, number);
-    join(row, rows.row(number));
+    enter_index(set, numbers, number);
+    set.join(rows.row(number));
 }
 
-/// What a proof with these uses reaches: those of some assertions that it uses, and those that the
-/// theorems rest on that it uses.
-fn row_of(
-    alloc: Global,
-    rows: &Rows,
-    numbers: &[LabelId],
-    used: &[LabelId],
-) -> Result<Vec<u64>, AllocError>
+/// Puts into an empty set what a proof with these uses reaches: those of some assertions that it
+/// uses, and those that the theorems rest on that it uses.
+fn fill(set: &mut Scratch, rows: &Rows, numbers: &[LabelId], used: &[LabelId])
     requires rising { AreRising (map (λ l. l.0) numbers.now) }
-    requires narrow { (n : ℕ) → length (slice_index_or rows.now n [])
-        ≤ length numbers.now / 64 + 1 }
-    ensures length { IfOk result (λ row. length row.items ≡ length numbers.now / 64 + 1) }
-    ensures reached { IfOk result (λ row. (c x : ℕ)
-        → slice_get (map (λ l. l.0) numbers.now) c ≡ Some x → has_bit_at row.items c ≡ true
-        ↔ ((n : ℕ) × Contains (map (λ l. l.0) used.now) n
-        × ((n ≡ x) ⊎ (has_bit_at (slice_index_or rows.now n []) c ≡ true)))) }
+    requires empty { set.old ≡ replicate (length numbers.now / 64 + 1) 0 }
+    requires narrow { AreNarrow rows.now (length numbers.now) }
+    ensures length { length set.new ≡ length set.old }
+    ensures reached { (c : ℕ) → has_bit_at set.new c ≡ true
+        ↔ Reaches rows.now (map (λ l. l.0) numbers.now) (map (λ l. l.0) used.now) c }
 {
-    let mut row = vec![in alloc; 0u64; numbers.len() / WORD_BITS + 1]?;
     for number in used {
-        enter(&mut row, rows, numbers, *number);
+        enter(set, rows, numbers, *number);
     }
-    Ok(row)
 }
 
 /// For each theorem, by its number, the indices of those of some assertions that it rests on.
 ///
 /// Each proof uses earlier assertions alone, so what it reaches is told by the rows before it.
+/// For each proof that takes a look at the words of the rows that it uses, at 64 words for each
+/// word of its own row at most, and at a mark for each 4096 of the assertions.
 pub(crate) fn rows_of(alloc: Global, kept: &Kept, numbers: &[LabelId]) -> Result<Rows, AllocError>
     requires backward { AreBackward kept.now }
     requires rising { AreRising (map (λ l. l.0) numbers.now) }
-    ensures { IfOk result (λ rows. (c x : ℕ)
-        → slice_get (map (λ l. l.0) numbers.now) c ≡ Some x
-        → (n : ℕ) → has_bit_at (slice_index_or rows n []) c ≡ true
-        ↔ RestsOn (UsedIn kept.now) n x) }
+    ensures { IfOk result (λ rows. TellRests kept.now (map (λ l. l.0) numbers.now) rows) }
 {
-    let mut rows = Rows::new(alloc);
+    let mut rows = Rows::new(alloc)?;
+    let mut set = Scratch::new(alloc, numbers.len())?;
     for at in 0..kept.len() {
-        let theorem = kept.proof(at);
-        rows.pad(alloc, theorem)?;
-        let row = row_of(alloc, &rows, numbers, kept.used(at))?;
-        rows.push(row)?;
+        fill(&mut set, &rows, numbers, kept.used(at));
+        rows = rows.with_row(kept.proof(at), &mut set)?;
     }
     Ok(rows)
+}
+
+/// Puts the number at an index at the end of a list, if there is one.
+fn push_at(out: &mut Vec<LabelId>, numbers: &[LabelId], at: usize) -> Result<(), AllocError>
+    ensures { OnOk result (out.new.items
+        ≡ out.old.items ++ option_to_list (slice_get numbers.now at)) }
+{
+    match numbers.get(at) {
+        Some(number) => out.push(*number)?,
+        None => {}
+    }
+    Ok(())
+}
+
+/// Puts those of these numbers at the end of a list whose indices a word tells, in their order.
+fn push_told(out: &mut Vec<LabelId>, numbers: &[LabelId], word: SetWord) -> Result<(), AllocError>
+    requires rising { AreRising (map (λ l. l.0) numbers.now) }
+    requires narrow { word.index < 2 ^ 58 }
+    ensures { OnOk result ((row : List PlainWord) → IsRow row → Contains row word
+        → AreInOrder (ReachedBefore (map (λ l. l.0) numbers.now) row (word.index * 64))
+        (map (λ l. l.0) out.old.items)
+        → AreInOrder (ReachedBefore (map (λ l. l.0) numbers.now) row ((word.index + 1) * 64))
+        (map (λ l. l.0) out.new.items)) }
+{
+    for bit in 0..WORD_BITS {
+        let at = word.index * WORD_BITS + bit;
+        if has_bit(word, at) {
+            push_at(out, numbers, at)?;
+        }
+    }
+    Ok(())
 }
 
 /// Those of these numbers whose indices are in the row of a theorem, in their order.
@@ -154,53 +204,24 @@ pub fn reached(
     theorem: LabelId,
 ) -> Result<Vec<LabelId>, AllocError>
     requires { AreRising (map (λ l. l.0) numbers.now) }
-    ensures { IfOk result (λ ids. AreInOrder
-        (λ n. (c : ℕ) × (slice_get (map (λ l. l.0) numbers.now) c ≡ Some n)
-        × (has_bit_at (slice_index_or rows.now theorem.0 []) c ≡ true))
+    ensures { IfOk result (λ ids. AreReached (map (λ l. l.0) numbers.now) rows.now theorem.0
         (map (λ l. l.0) ids.items)) }
 {
-    let row = rows.row(theorem);
     let mut reached = Vec::new(alloc);
-    for at in 0..numbers.len() {
-        if has_bit(row, at) {
-            reached.push(numbers[at])?;
-        }
+    for word in rows.row(theorem) {
+        push_told(&mut reached, numbers, *word)?;
     }
     Ok(reached)
 }
 
-/// The word at an index; 0 where there is none.
-fn word_at(words: &[u64], at: usize) -> u64
-    ensures { result ≡ slice_index_or words.now at 0 }
-{
-    match words.get(at) {
-        Some(word) => *word,
-        None => 0,
-    }
-}
-
-/// Whether each number of a set is in the other one.
-fn is_within(row: &[u64], others: &[u64]) -> bool
-    ensures { IsTrue result → (n : ℕ) → has_bit_at row.now n ≡ true
-        → has_bit_at others.now n ≡ true }
-{
-    for at in 0..row.len() {
-        let word = row[at];
-        if word & word_at(others, at) != word {
-            return false;
-        }
-    }
-    true
-}
-
 /// Whether the index of a number is in a set, if it is one of these.
-fn is_entered(numbers: &[LabelId], row: &[u64], number: LabelId) -> bool
+fn is_entered(numbers: &[LabelId], row: &[SetWord], number: LabelId) -> bool
     requires { AreRising (map (λ l. l.0) numbers.now) }
-    ensures { IsTrue result → (c : ℕ) → slice_get (map (λ l. l.0) numbers.now) c ≡ Some number.0
-        → has_bit_at row.now c ≡ true }
+    ensures { IsTrue result ↔ ((c : ℕ) → slice_get (map (λ l. l.0) numbers.now) c ≡ Some number.0
+        → has_number_in row.now c ≡ true) }
 {
     match index_of(numbers, number) {
-        Some(at) => has_bit(row, at),
+        Some(at) => has_number(row, at),
         None => true,
     }
 }
@@ -213,13 +234,10 @@ pub(crate) fn rests_no_further(
     used: LabelId,
 ) -> bool
     requires { AreRising (map (λ l. l.0) numbers.now) }
-    ensures { IsTrue result → (uses : List ProofUses)
-        → TellRests uses (map (λ l. l.0) numbers.now) rows.now
-        → RestsNoFurther uses (map (λ l. l.0) numbers.now) theorem.0 used.0 }
+    ensures { (uses : List ProofUses) → TellRests uses (map (λ l. l.0) numbers.now) rows.now
+        → IsTrue result
+        ↔ RestsNoFurther uses (map (λ l. l.0) numbers.now) theorem.0 used.0 }
 {
     let row = rows.row(theorem);
-    if !is_entered(numbers, row, used) {
-        return false;
-    }
-    is_within(rows.row(used), row)
+    is_entered(numbers, row, used) && is_within(rows.row(used), row)
 }

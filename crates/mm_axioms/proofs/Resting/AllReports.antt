@@ -1,10 +1,9 @@
--- What all theorems rest on: the numbers of a kind, the numbers in a row, and the lines of reports.
+-- What all theorems rest on: the numbers of a kind, what a row tells, and the lines of reports.
 use Rattle.std.proofs.Common.{◌≡◌, ◌↔◌, ℕ, ◌+◌, ◌<◌, ◌≤◌, List, [], ◌∷◌, ◌++◌, take, length, map}
 use Rattle.std.proofs.Common.{get_or, slice_get, Contains, true, Some, inl, inr, refl}
 use Rattle.std.proofs.Common.{sym, ap, subst, ◌∙◌, arith}
-use Rattle.std.proofs.lemmas.Bool.{cases_eq, cases_lt}
+use Rattle.std.proofs.lemmas.Bool.{cases_lt}
 use Rattle.std.proofs.lemmas.List.{map-append}
-use Rattle.std.proofs.lemmas.Option.{slice_get_within}
 use Rattle.mm_base.specs.declared.statement.Kind.{Kind}
 use Rattle.mm_frame.specs.declared.number.LabelId.{LabelId}
 use Rattle.mm_frame.specs.declared.number.LabelKind.{LabelKind}
@@ -16,11 +15,10 @@ use Rattle.mm_frame.proofs.Names.LabelNumbers.{numbered_get, numbered_some, numb
 use Rattle.mm_base.proofs.Lists.{at_from_contains, contains_from_at}
 use Rattle.mm_base.proofs.Lists.{all_within}
 use Rattle.mm_step.specs.Plain.{ids_in}
-use Rattle.mm_rules.specs.Rests.{AreRising, AreInOrder}
-use Rattle.mm_axioms.specs.Mirror.Bits.{has_bit}
+use Rattle.mm_rules.specs.Rests.{AreInOrder}
+use Rattle.mm_axioms.specs.Mirror.Rows.{PlainRows}
 use Rattle.mm_axioms.specs.Mirror.Tables.{IsOfKind, AreReached}
 use Rattle.mm_rules.proofs.Numbers.{in_order_same}
-use Rattle.mm_axioms.proofs.Resting.RestsOn.{taken}
 use Rattle.std.proofs.Common.{Option, None}
 use Rattle.std.specs.List.{AllByRecursion}
 use Rattle.std.proofs.lemmas.List.{take_more}
@@ -84,44 +82,6 @@ pub below_most : (statements : List Sentence) (kind : Kind) (end n : ℕ) → le
 below_most statements kind end n few (index, s, numbered, is) =
     let within : n < length (labelled_sentences statements) = numbered_within statements n index s numbered in omega arith
 
--- ==== the numbers whose indices are in a row
-
--- those before an index
-abbrev pub ReachedBefore : List ℕ → List ℕ → ℕ → ℕ → Type 0
-ReachedBefore numbers row k n = (c : ℕ) × (c < k) × (slice_get numbers c ≡ Some n) × (has_bit row c ≡ true)
-
-pub reached_taken : (numbers row : List ℕ) (k : ℕ) (ids new : List LabelId) (x : LabelId) → AreRising numbers → AreInOrder (ReachedBefore numbers row k) (ids_in ids)
-    → slice_get numbers k ≡ Some x.0 → has_bit row k ≡ true → new ≡ ids ++ x ∷ [] → AreInOrder (ReachedBefore numbers row (k + 1)) (ids_in new)
-reached_taken numbers row k ids new x rising order at holds e =
-    rw (e, map-append)
-    (taken (ReachedBefore numbers row k) (ReachedBefore numbers row (k + 1)) (ids_in ids) x.0 order
-    (λ n (c, less, there, has). rising c k n x.0 less there at)
-    (k, omega arith, at, holds)
-    (λ n (c, less, there, has). (c, omega arith, there, has))
-    (λ n (c, less, there, has). elim (cases_eq c k) [
-      | inl same ↦ inr (let one : slice_get numbers k ≡ Some n = subst (λ (i : ℕ). slice_get numbers i ≡ Some n) same there in cc)
-      | inr other ↦ inl (c, omega arith, there, has)
-    ]))
-
-pub reached_passed : (numbers row : List ℕ) (k : ℕ) (ids : List LabelId) → AreInOrder (ReachedBefore numbers row k) (ids_in ids)
-    → ¬ (has_bit row k ≡ true) → AreInOrder (ReachedBefore numbers row (k + 1)) (ids_in ids)
-reached_passed numbers row k ids order none =
-    in_order_same (ReachedBefore numbers row k) (ReachedBefore numbers row (k + 1)) (ids_in ids) order (λ n. (
-      (λ (c, less, there, has). (c, omega arith, there, has)),
-      λ (c, less, there, has). elim (cases_eq c k) [
-        | inl same ↦ absurd (none (subst (λ (i : ℕ). has_bit row i ≡ true) same has))
-        | inr other ↦ (c, omega arith, there, has)
-      ],
-    ))
-
-pub reached_all : (numbers row : List ℕ) (k : ℕ) (ids : List ℕ) → AreInOrder (ReachedBefore numbers row k) ids → length numbers ≤ k
-    → AreInOrder (λ n. (c : ℕ) × (slice_get numbers c ≡ Some n) × (has_bit row c ≡ true)) ids
-reached_all numbers row k ids order all =
-    in_order_same (ReachedBefore numbers row k) _ ids order (λ n. (
-      (λ (c, less, there, has). (c, there, has)),
-      λ (c, there, has). (c, (let within = slice_get_within numbers c n there in omega arith), there, has),
-    ))
-
 -- the statement with a number has the label with it
 pub named_at : (statements : List PlainStatement) (label : List ℕ) (P : PlainStatement → Type 0) (id : ℕ) → IsNumberWhere statements P id
     → slice_get (labels_in (sentences statements)) id ≡ Some label → IsNamed statements label P id
@@ -145,12 +105,14 @@ proved_at statements c label id kept (index, t, numbered, kind) none there =
     (index, s, at, proof_or_not s.kind (is_incomplete (proof_of s)) provable (λ unproved. none ((kept.incomplete.each id).1 (index, s, at, unproved)))) there
 
 -- what stands in the row of a theorem is what it rests on
-rests_in : (P : ℕ → Type 0) (uses : List ProofUses) (numbers : List ℕ) (rows : List (List ℕ)) (id : ℕ) (ids : List ℕ)
+rests_in : (P : ℕ → Type 0) (uses : List ProofUses) (numbers : List ℕ) (rows : PlainRows) (id : ℕ) (ids : List ℕ)
     → ((n : ℕ) → Contains numbers n ↔ P n) → TellRests uses numbers rows → AreReached numbers rows id ids
     → AreInOrder (λ n. P n × RestsOn (UsedIn uses) id n) ids
 rests_in P uses numbers rows id ids holds tell order = in_order_same _ _ ids order (λ n. (
-  (λ (c, there, has). ((holds n).0 (contains_from_at numbers n (c, there)), (tell c n there id).0 has)),
-  λ (p, rests). let at = at_from_contains numbers n ((holds n).1 p) in (at.0, at.1, (tell at.0 n at.1 id).1 rests),
+  (λ (c, there, has).
+      let (x, at, rests) = (tell id c).0 has in
+      ((holds n).0 (contains_from_at numbers n (c, there)), subst (λ (m : ℕ). RestsOn (UsedIn uses) id m) (same_Some x n (sym at ∙ there)) rests)),
+  λ (p, rests). let (c, there) = at_from_contains numbers n ((holds n).1 p) in (c, there, (tell id c).1 (n, there, rests)),
 ))
 
 pub report_told : (statements : List PlainStatement) (c : Conclusion) (label : List ℕ) (id : ℕ) (t : Tables) (told : Report)
@@ -165,7 +127,7 @@ report_told statements c label id t told kept all kind none there tables found =
     (rests_in (λ n. Contains c.incomplete n) c.uses c.incomplete t.unproved_rows id (ids_in told.unproved.items) (λ n. ((λ h. h), λ h. h)) tables.unproved_rows found.unproved)
 
 -- each number of a report is that of a label
-pub reached_within : (numbers : List ℕ) (rows : List (List ℕ)) (id : ℕ) (ids : List ℕ) (count : ℕ) → AreReached numbers rows id ids
+pub reached_within : (numbers : List ℕ) (rows : PlainRows) (id : ℕ) (ids : List ℕ) (count : ℕ) → AreReached numbers rows id ids
     → ((n : ℕ) → Contains numbers n → n < count) → AllByRecursion (λ n. n < count) ids
 reached_within numbers rows id ids count order within =
     all_within (λ n. n < count) ids (λ n h. let (c, there, has) = (order.each n).0 h in within n (contains_from_at numbers n (c, there)))

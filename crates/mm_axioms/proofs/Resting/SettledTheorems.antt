@@ -1,22 +1,24 @@
 -- What theorems rest on, told proof after proof in their order: for one assertion, a test that tells
 -- of each theorem so far whether it rests on it; and rows of such tests.
-use Rattle.std.proofs.Common.{◌≡◌, ◌↔◌, ℕ, zero, suc, ◌+◌, ◌/◌, ◌%◌, ◌<◌, ◌≤◌, List, [], ◌∷◌, ◌++◌, take, length}
-use Rattle.std.proofs.Common.{get_or, slice_get, slice_index_or, Contains, Bool, true, false, replicate}
-use Rattle.std.proofs.Common.{Some, ◌⊎◌, inl, inr, refl, sym, ap, subst, ◌∙◌, arith, not, nat_eq, length-append}
+use Rattle.std.proofs.Common.{◌≡◌, ◌↔◌, ℕ, ◌+◌, ◌/◌, ◌%◌, ◌<◌, ◌≤◌, List, [], ◌∷◌, ◌++◌, take, length}
+use Rattle.std.proofs.Common.{get_or, slice_get, Contains, Bool, true, false, replicate}
+use Rattle.std.proofs.Common.{Some, ◌⊎◌, inl, inr, refl, sym, ap, subst, ◌∙◌, arith, not, nat_eq}
 use Rattle.std.proofs.Common.{◌&&◌, eq-eqb}
 use Rattle.std.specs.Int.{bit_at}
 use Rattle.std.proofs.lemmas.Bool.{cases_eq, cases_lt, eqb-true, not-true, and_parts}
 use Rattle.std.proofs.lemmas.Nat.Bits.{bit_at-zero}
 use Rattle.std.proofs.lemmas.List.{get_or-replicate, get_or_past, length-replicate}
-use Rattle.std.proofs.lemmas.Option.{slice_get_within, get_or_from_slice_get}
+use Rattle.std.proofs.lemmas.Option.{slice_get_within, same_Some}
 use Rattle.std.proofs.lemmas.List.Elements.{Contains-append_left}
 use Rattle.mm_frame.specs.declared.number.LabelId.{LabelId}
 use Rattle.mm_frame.proofs.Names.NameNumbers.{get_mapped}
-use Rattle.mm_base.proofs.Lists.{at_from_contains, contains_from_at, get_pushed}
+use Rattle.mm_base.proofs.Lists.{at_from_contains, contains_from_at}
 use Rattle.mm_step.specs.Plain.{ids_in}
 use Rattle.mm_rules.specs.Conclusion.{ProofUses, numbers_of}
 use Rattle.mm_rules.specs.Rests.{RestsOn}
-use Rattle.mm_axioms.specs.Mirror.Bits.{has_bit}
+use Rattle.mm_axioms.specs.declared.bits.SetWord.{SetWord}
+use Rattle.mm_axioms.specs.Mirror.Bits.{has_bit, has_number}
+use Rattle.mm_axioms.specs.Mirror.Rows.{PlainRows, row_in, Reaches, IsRowPut, AreNarrow}
 use Rattle.mm_rules.specs.Mirror.Marks.{UsedIn, AreBackward}
 use Rattle.mm_rules.proofs.Numbers.{holds_last, holds_cases}
 use Rattle.mm_axioms.proofs.WordBits.{has_word}
@@ -132,107 +134,150 @@ no_bits k c h =
     let bit = (has_word (replicate k 0) c).0 h in
     let none : get_or (replicate k 0) (c / 64) 0 ≡ 0 = elim (cases_lt (c / 64) k) [
       | inl less ↦ get_or-replicate k (c / 64) 0 0 less
-      | inr more ↦ get_or_past (replicate k 0) (c / 64) 0 (omega (arith, more, length-replicate {A = ℕ} k 0))
+      | inr more ↦ get_or_past (replicate k 0) (c / 64) 0
+          (omega (arith, more, length-replicate {A = ℕ} k 0))
     ] in
     let zero : bit_at 0 (c % 64) ≡ 1 = ap (λ (w : ℕ). bit_at w (c % 64)) (sym none) ∙ bit in
     not_both (bit_at 0 (c % 64)) (bit_at-zero (c % 64)) zero
 
--- some of the numbers is the assertion, or has it in its row
-abbrev pub Reaches : List (List ℕ) → List ℕ → (c x : ℕ) → Type 0
-Reaches rows used c x = (n : ℕ) × Contains used n × ((n ≡ x) ⊎ (has_bit (slice_index_or rows n []) c ≡ true))
+-- the words have the bits of what is reached
+abbrev pub IsRowOf : PlainRows → (numbers used words : List ℕ) → Type 0
+IsRowOf rows numbers used words = (c : ℕ) → has_bit words c ≡ true ↔ Reaches rows numbers used c
 
-pub record IsRowOf (rows : List (List ℕ)) (numbers used row : List ℕ) : Type 0 where
-  pub told : (c x : ℕ) → slice_get numbers c ≡ Some x → has_bit row c ≡ true ↔ Reaches rows used c x
-
-pub row_starts : (rows : List (List ℕ)) (numbers row : List ℕ) (k : ℕ) → row ≡ replicate k 0 → IsRowOf rows numbers [] row
-row_starts rows numbers row k e = record {
-  told = λ c x at. (
-    (λ h. absurd (no_bits k c (subst (λ (ws : List ℕ). has_bit ws c ≡ true) e h))),
-    λ (n, among, reached). absurd (let there = at_from_contains [] n among in let none = there.1 in cc),
-  );
-}
+pub row_starts : (rows : PlainRows) (numbers words : List ℕ) (k : ℕ) → words ≡ replicate k 0
+    → IsRowOf rows numbers [] words
+row_starts rows numbers words k e c = (
+  (λ h. absurd (no_bits k c (subst (λ (ws : List ℕ). has_bit ws c ≡ true) e h))),
+  λ (n, among, reached). absurd
+      (let there = at_from_contains [] n among in let none = there.1 in cc),
+)
 
 -- one more number
-pub row_more : (rows : List (List ℕ)) (numbers old new : List ℕ) (used : List LabelId) (k : ℕ) (n : LabelId) → IsRowOf rows numbers (ids_in (take k used)) old
+pub row_more : (rows : PlainRows) (numbers old new : List ℕ) (used : List LabelId) (k : ℕ)
+    (n : LabelId) → IsRowOf rows numbers (ids_in (take k used)) old
     → slice_get used k ≡ Some n
-    → ((c x : ℕ) → slice_get numbers c ≡ Some x
-    → has_bit new c ≡ true ↔ ((has_bit old c ≡ true) ⊎ ((n.0 ≡ x) ⊎ (has_bit (slice_index_or rows n.0 []) c ≡ true))))
+    → ((c : ℕ) → has_bit new c ≡ true ↔
+    ((has_bit old c ≡ true) ⊎
+    ((slice_get numbers c ≡ Some n.0) ⊎ (has_number (row_in rows n.0) c ≡ true))))
     → IsRowOf rows numbers (ids_in (take (k + 1) used)) new
-row_more rows numbers old new used k n h at one = record {
-  told = λ c x there. (
-    (λ t. elim ((one c x there).0 t) [
-      | inl was ↦ let (m, among, reached) = (h.told c x there).0 was in (m, later m (inl among), reached)
-      | inr reached ↦ (n.0, later n.0 (inr refl), reached)
-    ]),
-    λ (m, among, reached). (one c x there).1 (elim (cases m among) [
-      | inl before ↦ inl ((h.told c x there).1 (m, before, reached))
-      | inr last ↦ inr (subst (λ (t : ℕ). (t ≡ x) ⊎ (has_bit (slice_index_or rows t []) c ≡ true)) last reached)
-    ]),
-  );
-}
+row_more rows numbers old new used k n h at one c = (
+  (λ t. elim ((one c).0 t) [
+    | inl was ↦ let (m, among, reached) = (h c).0 was in (m, later m (inl among), reached)
+    | inr reached ↦ (n.0, later n.0 (inr refl), reached)
+  ]),
+  λ (m, among, reached). (one c).1 (elim (cases m among) [
+    | inl before ↦ inl ((h c).1 (m, before, reached))
+    | inr last ↦ inr (subst
+        (λ (t : ℕ). (slice_get numbers c ≡ Some t) ⊎ (has_number (row_in rows t) c ≡ true)) last
+        reached)
+  ]),
+)
   where
-    cases : (m : ℕ) → Contains (ids_in (take (k + 1) used)) m → Contains (ids_in (take k used)) m ⊎ (m ≡ n.0)
-    cases m among = holds_cases (ids_in (take k used)) n.0 m (subst (λ (ns : List ℕ). Contains ns m) (among_more used k n at) among)
+    cases : (m : ℕ) → Contains (ids_in (take (k + 1) used)) m
+        → Contains (ids_in (take k used)) m ⊎ (m ≡ n.0)
+    cases m among = holds_cases (ids_in (take k used)) n.0 m
+        (subst (λ (ns : List ℕ). Contains ns m) (among_more used k n at) among)
 
-    later : (m : ℕ) → Contains (ids_in (take k used)) m ⊎ (m ≡ n.0) → Contains (ids_in (take (k + 1) used)) m
+    later : (m : ℕ) → Contains (ids_in (take k used)) m ⊎ (m ≡ n.0)
+        → Contains (ids_in (take (k + 1) used)) m
     later m way = subst (λ (ns : List ℕ). Contains ns m) (sym (among_more used k n at)) (elim way [
       | inl before ↦ Contains-append_left (ids_in (take k used)) (n.0 ∷ []) m before
-      | inr last ↦ subst (λ (t : ℕ). Contains (ids_in (take k used) ++ n.0 ∷ []) t) (sym last) (holds_last (ids_in (take k used)) n.0)
+      | inr last ↦ subst (λ (t : ℕ). Contains (ids_in (take k used) ++ n.0 ∷ []) t) (sym last)
+          (holds_last (ids_in (take k used)) n.0)
     ])
 
 -- ---- the rows of all proofs
 
 -- the rows of the proofs before an index
-pub record AreRows (uses : List ProofUses) (numbers : List ℕ) (k : ℕ) (rows : List (List ℕ)) : Type 0 where
-  pub narrow : (n : ℕ) → length (slice_index_or rows n []) ≤ length numbers / 64 + 1
-  pub below : (i : ℕ) (u : ProofUses) → k ≤ i → slice_get uses i ≡ Some u → length rows ≤ u.number
-  pub settled : (c x : ℕ) → slice_get numbers c ≡ Some x → IsSettled uses x k (λ n. has_bit (slice_index_or rows n []) c)
+pub record AreRows (uses : List ProofUses) (numbers : List ℕ) (k : ℕ)
+    (rows : PlainRows) : Type 0 where
+  pub narrow : (n c : ℕ) → has_number (row_in rows n) c ≡ true
+      → (x : ℕ) × (slice_get numbers c ≡ Some x)
+  pub below : (i : ℕ) (u : ProofUses) → k ≤ i → slice_get uses i ≡ Some u
+      → length rows.bounds ≤ u.number + 1
+  pub settled : (c x : ℕ) → slice_get numbers c ≡ Some x
+      → IsSettled uses x k (λ n. has_number (row_in rows n) c)
 
-pub rows_start : (uses : List ProofUses) (numbers : List ℕ) → AreRows uses numbers 0 []
-rows_start uses numbers = record {
-  narrow = λ n. omega arith;
+no_number : (row : List SetWord) (c : ℕ) → row ≡ [] → ¬ (has_number row c ≡ true)
+no_number [] c e h = absurd cc
+no_number (w ∷ row) c e h = absurd cc
+
+pub rows_start : (uses : List ProofUses) (numbers : List ℕ) (rows : PlainRows)
+    → length rows.bounds ≤ 1 → ((n : ℕ) → row_in rows n ≡ []) → AreRows uses numbers 0 rows
+rows_start uses numbers rows few none = record {
+  narrow = λ n c h. absurd (no_number (row_in rows n) c (none n) h);
   below = λ i u within there. omega arith;
-  settled = λ c x at. settled_none uses x (λ n. has_bit (slice_index_or [] n []) c) (λ n h. no_bits 0 c h);
+  settled = λ c x at. settled_none uses x (λ n. has_number (row_in rows n) c)
+      (λ n h. no_number (row_in rows n) c (none n) h);
 }
 
--- the row at the end is one more, and the others are as they were
-row_pushed : (rows : List (List ℕ)) (row : List ℕ) (n : ℕ) → n ≡ length rows → slice_index_or (rows ++ row ∷ []) n [] ≡ row
-row_pushed rows row n e = rw e (get_or_from_slice_get (rows ++ row ∷ []) (length rows) row [] (get_pushed rows row))
+pub rows_narrow : (uses : List ProofUses) (numbers : List ℕ) (k : ℕ) (rows : PlainRows)
+    → AreRows uses numbers k rows → AreNarrow rows (length numbers)
+rows_narrow uses numbers k rows h n c holds = let (x, at) = h.narrow n c holds in slice_get_within
+    numbers c x at
 
-row_kept : (rows : List (List ℕ)) (row : List ℕ) (n : ℕ) → ¬ (n ≡ length rows) → slice_index_or (rows ++ row ∷ []) n [] ≡ slice_index_or rows n []
-row_kept [] row zero other = absurd (other refl)
-row_kept [] row (suc n) other = refl
-row_kept (r ∷ rows) row zero other = refl
-row_kept (r ∷ rows) row (suc n) other = row_kept rows row n (λ e. other (ap suc e))
-
-pub rows_more : (uses : List ProofUses) (numbers : List ℕ) (k : ℕ) (rows padded : List (List ℕ)) (row : List ℕ) (u : ProofUses) → AreBackward uses → AreRows uses numbers k rows
-    → slice_get uses k ≡ Some u → length padded ≡ u.number → ((n : ℕ) → slice_index_or padded n [] ≡ slice_index_or rows n [])
-    → length row ≡ length numbers / 64 + 1 → ((c x : ℕ) → slice_get numbers c ≡ Some x → has_bit row c ≡ true ↔ Reaches padded u.used c x)
-    → AreRows uses numbers (k + 1) (padded ++ row ∷ [])
-rows_more uses numbers k rows padded row u backward h at long same wide told = record {
-  narrow = λ n. elim (cases_eq n (length padded)) [
-    | inl last ↦ let e = ap length (row_pushed padded row n last) in omega (arith, e, wide)
-    | inr other ↦ let e = ap length (row_kept padded row n other ∙ same n) in omega (arith, e, h.narrow n)
+pub rows_more : (uses : List ProofUses) (numbers : List ℕ) (k : ℕ) (rows new : PlainRows)
+    (row : List SetWord) (u : ProofUses) → AreBackward uses → AreRows uses numbers k rows
+    → slice_get uses k ≡ Some u → IsRowPut rows u.number row new
+    → ((c : ℕ) → has_number row c ≡ true ↔ Reaches rows numbers u.used c)
+    → AreRows uses numbers (k + 1) new
+rows_more uses numbers k rows new row u backward h at put told = record {
+  narrow = λ n c holds. elim (cases_eq n u.number) [
+    | inl own ↦
+        let (m, used, reached) = (told c).0
+        (subst (λ (ws : List SetWord). has_number ws c ≡ true)
+        (ap (λ (t : ℕ). row_in new t) own ∙ put.own) holds) in
+        elim reached [ inl there ↦ (m, there) | inr passes ↦ h.narrow m c passes ]
+    | inr other ↦ h.narrow n c
+        (subst (λ (ws : List SetWord). has_number ws c ≡ true) (put.others n other) holds)
   ];
   below = λ i v within there.
       let later : u.number < v.number =
-      backward.rising k i u.number v.number (omega arith) (get_mapped (λ (w : ProofUses). w.number) uses k u at) (get_mapped (λ (w : ProofUses). w.number) uses i v there) in
-      omega (arith, later, long, length-append padded (row ∷ []));
+      backward.rising k i u.number v.number (omega arith)
+      (get_mapped (λ (w : ProofUses). w.number) uses k u at)
+      (get_mapped (λ (w : ProofUses). w.number) uses i v there) in
+      let few = put.count in
+      omega arith;
   settled = λ c x there.
-      settled_more uses x k (λ n. has_bit (slice_index_or rows n []) c) (λ n. has_bit (slice_index_or (padded ++ row ∷ []) n []) c) u backward (h.settled c x there) at
-      (λ n other. ap (λ (ws : List ℕ). has_bit ws c) (row_kept padded row n (λ e. other (e ∙ long)) ∙ same n)) (
-        (λ t. let (m, used, reached) = (told c x there).0 (subst (λ (ws : List ℕ). has_bit ws c ≡ true) (row_pushed padded row u.number (sym long)) t) in
-            (m, used, elim reached [ inl own ↦ inl own | inr passes ↦ inr (subst (λ (ws : List ℕ). has_bit ws c ≡ true) (same m) passes) ])),
-        λ (m, used, reached). subst (λ (ws : List ℕ). has_bit ws c ≡ true) (sym (row_pushed padded row u.number (sym long)))
-            ((told c x there).1 (m, used, elim reached [ inl own ↦ inl own | inr passes ↦ inr (subst (λ (ws : List ℕ). has_bit ws c ≡ true) (sym (same m)) passes) ])),
+      settled_more uses x k (λ n. has_number (row_in rows n) c) (λ n. has_number (row_in new n) c) u
+      backward (h.settled c x there) at
+      (λ n other. ap (λ (ws : List SetWord). has_number ws c) (put.others n other)) (
+        (λ t. let (m, used, reached) = (told c).0
+            (subst (λ (ws : List SetWord). has_number ws c ≡ true) put.own t) in (
+              m,
+              used,
+              elim reached
+                  [ inl own ↦ inl (same_Some m x (sym own ∙ there)) | inr passes ↦ inr passes ],
+            )),
+        λ (m, used, reached). subst (λ (ws : List SetWord). has_number ws c ≡ true) (sym put.own)
+            ((told c).1 (
+              m,
+              used,
+              elim reached [
+                | inl own ↦ inl (there ∙ ap (λ (t : ℕ). Some t) (sym own))
+                | inr passes ↦ inr passes
+              ],
+            )),
       );
 }
 
 -- what is reached by the same numbers
-pub reaches_as : (rows : List (List ℕ)) (used others : List ℕ) (c x : ℕ) → ((n : ℕ) → Contains used n ↔ Contains others n) → Reaches rows used c x → Reaches rows others c x
-reaches_as rows used others c x same (n, among, reached) = (n, (same n).0 among, reached)
+pub reaches_as : (rows : PlainRows) (numbers used others : List ℕ) (c : ℕ)
+    → ((n : ℕ) → Contains used n ↔ Contains others n) → Reaches rows numbers used c
+    → Reaches rows numbers others c
+reaches_as rows numbers used others c same (n, among, reached) = (n, (same n).0 among, reached)
 
-pub rows_ended : (uses : List ProofUses) (numbers : List ℕ) (k : ℕ) (rows : List (List ℕ)) → AreRows uses numbers k rows → length uses ≤ k
-    → (c x : ℕ) → slice_get numbers c ≡ Some x → (n : ℕ) → has_bit (slice_index_or rows n []) c ≡ true ↔ RestsOn (UsedIn uses) n x
-rows_ended uses numbers k rows h all c x at n =
-    settled_all uses x k (λ m. has_bit (slice_index_or rows m []) c) (h.settled c x at) all n
+pub rows_ended : (uses : List ProofUses) (numbers : List ℕ) (k : ℕ) (rows : PlainRows)
+    → AreRows uses numbers k rows → length uses ≤ k
+    → (n c : ℕ) → has_number (row_in rows n) c ≡ true ↔
+    ((x : ℕ) × (slice_get numbers c ≡ Some x) × RestsOn (UsedIn uses) n x)
+rows_ended uses numbers k rows h all n c = (
+  (λ holds. let (x, at) = h.narrow n c holds in (
+    x,
+    at,
+    (settled_all uses x k (λ m. has_number (row_in rows m) c) (h.settled c x at) all n).0
+        holds,
+  )),
+  λ (x, at, rests).
+      (settled_all uses x k (λ m. has_number (row_in rows m) c) (h.settled c x at) all n).1 rests,
+)

@@ -1,6 +1,6 @@
 -- Tables of what all theorems rest on. This file mirrors the code, and is cited by private
 -- contracts alone.
-use Rattle.std.specs.Prelude.{◌≡◌, ◌↔◌, ℕ, List, [], slice_get, slice_index_or, Some, None}
+use Rattle.std.specs.Prelude.{◌≡◌, ◌↔◌, ℕ, List, slice_get, Some, None}
 use Rattle.std.specs.Prelude.{Option, true}
 use Rattle.std.specs.List.{AllZip}
 use Rattle.mm_base.specs.declared.statement.Kind.{Kind}
@@ -15,7 +15,8 @@ use Rattle.mm_rules.specs.Verdict.{is_unproved}
 use Rattle.mm_rules.specs.Rests.{AreInOrder, RestsOn, IsNamed, IsReport}
 use Rattle.mm_axioms.specs.AllAxioms.{ReportLine, IsReportLine, unproved_line, proved_line}
 use Rattle.mm_axioms.specs.Reply.{lines_text}
-use Rattle.mm_axioms.specs.Mirror.Bits.{has_bit}
+use Rattle.mm_axioms.specs.Mirror.Bits.{has_number}
+use Rattle.mm_axioms.specs.Mirror.Rows.{PlainRows, row_in}
 use Rattle.mm_rules.specs.Mirror.Marks.{UsedIn, IsAxiomNumber}
 
 -- the number is that of a statement of the kind
@@ -24,10 +25,10 @@ IsOfKind statements kind id =
     (index : ℕ) × (s : Sentence) × IsNumbered statements id index s × (s.kind ≡ kind)
 
 -- in the row of each theorem stand the indices of those of these numbers that it rests on
-abbrev pub TellRests : List ProofUses → List ℕ → List (List ℕ) → Type 0
+abbrev pub TellRests : List ProofUses → List ℕ → PlainRows → Type 0
 TellRests uses numbers rows =
-    (c x : ℕ) → slice_get numbers c ≡ Some x
-    → (n : ℕ) → has_bit (slice_index_or rows n []) c ≡ true ↔ RestsOn (UsedIn uses) n x
+    (n c : ℕ) → has_number (row_in rows n) c ≡ true
+    ↔ ((x : ℕ) × (slice_get numbers c ≡ Some x) × RestsOn (UsedIn uses) n x)
 
 -- the tables are those of the axioms, and of the unproved theorems
 pub record AreTables (statements : List Sentence) (incomplete : List ℕ) (uses : List ProofUses)
@@ -44,10 +45,10 @@ IsReportAt statements label id (Some told) =
     × (report.id ≡ id)
 
 -- the numbers in the row of the theorem
-abbrev pub AreReached : List ℕ → List (List ℕ) → ℕ → List ℕ → Type 0
+abbrev pub AreReached : List ℕ → PlainRows → ℕ → List ℕ → Type 0
 AreReached numbers rows id ids =
     AreInOrder (λ n. (c : ℕ) × (slice_get numbers c ≡ Some n)
-    × (has_bit (slice_index_or rows id []) c ≡ true)) ids
+    × (has_number (row_in rows id) c ≡ true)) ids
 
 -- the report of the theorem is that of the tables
 pub record IsReportIn (t : Tables) (incomplete : List ℕ) (id : ℕ) (report : Report) : Type 0 where

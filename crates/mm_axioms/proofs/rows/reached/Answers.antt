@@ -1,33 +1,45 @@
--- One more number, which is taken or passed over.
-use Rattle.std.proofs.Common.{◌≡◌, true, ℕ, List, [], map, get_or, slice_index_or, length, sym, subst, ◌∙◌, arith, ◌≤◌}
-use Rattle.std.proofs.lemmas.List.{length-map}
+-- One more word was looked at.
+use Rattle.std.proofs.Common.{◌≤◌, ◌+◌, List, ℕ, map, take, length, get_or, sym, subst}
+use Rattle.std.proofs.lemmas.List.{take_all}
+use Rattle.std.proofs.lemmas.List.Elements.{Contains-get_or}
 use Rattle.std.proofs.lemmas.Option.{slice_get-get_or}
 use Rattle.mm_frame.specs.declared.number.LabelId.{LabelId}
-use Rattle.mm_frame.proofs.Names.NameNumbers.{get_mapped}
-use Rattle.mm_axioms.proofs.Resting.AllReports.{reached_taken, reached_passed, reached_all}
-use Rattle.mm_axioms.specs.Mirror.Bits.{has_bit}
+use Rattle.mm_rules.specs.Rests.{AreInOrder}
+use Rattle.mm_axioms.specs.declared.bits.SetWord.{SetWord}
+use Rattle.mm_axioms.specs.Mirror.Rows.{row_in}
+use Rattle.mm_axioms.proofs.Resting.RowNumbers.{ReachedIn, reached_word}
 use Rattle.mm_axioms.proofs.rows.reached.Goals as goal
-use Rattle.mm_axioms.proofs.rows.reached.Goals.{then-has_bit+in_ok-push, else-has_bit}
 
-pub loop-at-preserved : goal.loop-at-preserved
-loop-at-preserved c =
-    let numbers : List LabelId = c.args.numbers.now in
-    let ids : List ℕ = map (λ (l : LabelId). l.0) numbers in
-    let row : List ℕ = slice_index_or c.args.rows.now c.args.theorem.0 [] in
-    let k : ℕ = c.loop-at.at in
-    let x : LabelId = get_or numbers k (record { 0 = 0 }) in
-    let at = get_mapped (λ (l : LabelId). l.0) numbers k x (slice_get-get_or numbers k (record { 0 = 0 }) (omega arith)) in
-    elim c.if-has_bit.branch [
-      | then-has_bit+in_ok-push w ↦
-          reached_taken ids row k c.loop-at.reached.items c.if-has_bit.reached.items x c.requires c.loop-at.invariant at
-          (subst (λ (ws : List ℕ). has_bit ws k ≡ true) c.row-row.ensures (sym c.has_bit.ensures ∙ w.if-has_bit.true)) (rw w.reached-is w.in_ok-push.ensures.items)
-      | else-has_bit w ↦
-          rw w.reached-is (reached_passed ids row k c.loop-at.reached.items c.loop-at.invariant
-          (λ t. absurd (let e = c.has_bit.ensures ∙ subst (λ (ws : List ℕ). has_bit ws k ≡ true) (sym c.row-row.ensures) t in let f = w.if-has_bit.false in cc)))
-    ]
+pub push_told-requires-clause-narrow : goal.push_told-requires-clause-narrow
+push_told-requires-clause-narrow c =
+    let row : List SetWord = c.row-word-items.result.now in
+    let zero : SetWord = record { index = 0; bits = 0 } in
+    (c.row-word-items.ensures.words.narrow (get_or row c.loop-word.word-index zero)
+    (Contains-get_or row c.loop-word.word-index zero c.loop-word-test.true)).0
+
+pub loop-word-preserved : goal.loop-word-preserved
+loop-word-preserved c =
+    let row : List SetWord = c.row-word-items.result.now in
+    let zero : SetWord = record { index = 0; bits = 0 } in
+    let k : ℕ = c.loop-word.word-index in
+    let ids : List ℕ = map (λ (l : LabelId). l.0) c.args.numbers.now in
+    let e = c.row-word-items.ensures.row in
+    subst (λ (r : List SetWord). AreInOrder (ReachedIn ids (take (k + 1) r))
+    (map (λ (l : LabelId). l.0) c.push_told.new.out.items)) e
+    (reached_word c.args.numbers.now row k (get_or row k zero) c.loop-word.reached.items
+    c.push_told.new.out.items c.row-word-items.ensures.words
+    (slice_get-get_or row k zero c.loop-word-test.true)
+    (subst (λ (r : List SetWord). AreInOrder (ReachedIn ids (take k r))
+    (map (λ (l : LabelId). l.0) c.loop-word.reached.items)) (sym e) c.loop-word.invariant)
+    c.in_ok-push_told.ensures)
 
 pub returns : goal.returns
 returns c =
-    let all : length c.args.numbers.now ≤ c.loop-at.at = omega arith in
-    reached_all (map (λ (l : LabelId). l.0) c.args.numbers.now) (slice_index_or c.args.rows.now c.args.theorem.0 []) c.loop-at.at _ c.loop-at.invariant
-    (omega (arith, all, length-map c.args.numbers.now (λ (l : LabelId). l.0)))
+    let row : List SetWord = row_in c.args.rows.now c.args.theorem.0 in
+    let k : ℕ = c.loop-word.word-index in
+    let all : length row ≤ k = subst (λ (r : List SetWord). length r ≤ k)
+    c.row-word-items.ensures.row c.loop-word-test.false in
+    subst (λ (r : List SetWord). AreInOrder
+    (ReachedIn (map (λ (l : LabelId). l.0) c.args.numbers.now) r)
+    (map (λ (l : LabelId). l.0) c.loop-word.reached.items))
+    (take_all k row all) c.loop-word.invariant
