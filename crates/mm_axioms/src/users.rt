@@ -1,6 +1,6 @@
 //! Who uses an assertion, and who rests on it.
 
-ghost use Rattle.std.specs.Prelude.{◌≡◌, ◌↔◌, ◌⊎◌, ◌<◌, ℕ, map, length, Contains, IfOk, IsTrue};
+ghost use Rattle.std.specs.Prelude.{◌≡◌, ◌↔◌, ◌⊎◌, ◌<◌, ◌+◌, ℕ, map, length, Contains, IfOk, IsTrue};
 ghost use Rattle.std.specs.Prelude.{IfSome, Some, slice_get};
 ghost use Rattle.mm_rules.specs.Conclusion.{ProofUses, numbers_of};
 ghost use Rattle.mm_rules.specs.Rests.{AreRising, AreInOrder, RestsOn};
@@ -49,7 +49,9 @@ fn is_one_reached(marks: &[bool], assertion: LabelId, numbers: &[LabelId]) -> bo
 /// One more than the number of the last proof; 0 where there is none.
 fn end_of(kept: &Kept) -> usize
     requires { AreRising (numbers_of kept.now) }
-    ensures { (u : ProofUses) → Contains kept.now u → u.number < result }
+    ensures room { (u : ProofUses) → Contains kept.now u → u.number < result }
+    ensures least { (result ≡ 0)
+        ⊎ ((u : ProofUses) × Contains kept.now u × (result ≡ u.number + 1)) }
 {
     match kept.len() {
         0 => 0,

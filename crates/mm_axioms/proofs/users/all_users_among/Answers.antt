@@ -12,7 +12,7 @@ use Rattle.mm_axioms.proofs.users.all_users_among.Goals.{then-is_one_reached+in_
 
 pub loop-at-init : goal.loop-at-init
 loop-at-init c =
-    rw c.new-users.ensures.items (passing_starts c.args.kept.now c.args.assertion.0 c.end_of.result c.in_ok-marks.marks.items c.end_of.ensures
+    rw c.new-users.ensures.items (passing_starts c.args.kept.now c.args.assertion.0 c.end_of.result c.in_ok-marks.marks.items c.end_of.ensures.room
     (c.in_ok-marks.ensures.items_if_clones_equal (λ y h. h)))
 
 pub index_mut-requires : goal.index_mut-requires
