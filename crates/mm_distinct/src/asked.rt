@@ -1,7 +1,7 @@
 //! What a step by an assertion asks of its entries, and what keeps it from being made.
 
-ghost use Rattle.std.specs.Prelude.{◌≡◌, ◌≢◌, ◌<◌, ◌↔◌, ℕ, List, [], ◌∷◌, ◌++◌, length, map, take};
-ghost use Rattle.std.specs.Prelude.{drop};
+ghost use Rattle.std.specs.Prelude.{◌≡◌, ◌≢◌, ◌<◌, ◌≤◌, ◌*◌, ◌↔◌, ℕ, List, [], ◌∷◌, ◌++◌, length};
+ghost use Rattle.std.specs.Prelude.{drop, map, take, vec_capacity, vec_len};
 ghost use Rattle.std.specs.Prelude.{slice_get, slice_range, Some, Contains, IsTrue, IfOk, OnOk};
 ghost use Rattle.std.specs.List.{AllByRecursion, AllZip};
 ghost use Rattle.mm_frame.specs.Sentence.{Sentence};
@@ -209,24 +209,28 @@ fn is_missing(book: &Book, own: &Frame, u: Sym, v: Sym) -> bool
 fn sort_once(pairs: &mut Vec<(Sym, Sym)>)
     ensures same { AreSamePairs (number_pairs pairs.old.items) (number_pairs pairs.new.items) }
     ensures rising { IsEachHigher (number_pairs pairs.new.items) }
+    ensures capacity { vec_capacity pairs.new ≡ vec_capacity pairs.old }
 {
     pairs.sort_unstable();
     pairs.dedup();
 }
 
-// Makes room for a pair more. Repeated pairs are dropped before the list grows, and it grows only
-// where more than half of them were not: so it never takes far more memory than the pairs that
-// differ, and each pair is sorted few times.
+// Makes room for a pair more. Where there is none, repeated pairs are dropped, and the list grows
+// only if they were no more than half of it: so it never takes far more memory than the pairs that
+// differ. Then half of it at least is free, so that each pair is sorted few times.
 fn make_room_for_pair(pairs: &mut Vec<(Sym, Sym)>) -> Result<(), AllocError>
-    ensures { OnOk result (AreSamePairs (number_pairs pairs.old.items)
+    ensures same { OnOk result (AreSamePairs (number_pairs pairs.old.items)
         (number_pairs pairs.new.items)) }
+    ensures room { OnOk result (vec_len pairs.new < vec_capacity pairs.new) }
+    ensures half { OnOk result (vec_capacity pairs.old ≤ vec_len pairs.old
+        → 2 * vec_len pairs.new ≤ vec_capacity pairs.new) }
 {
     if pairs.len() < pairs.capacity() {
         return Ok(());
     }
     sort_once(pairs);
-    if pairs.len() > pairs.capacity() / 2 {
-        pairs.reserve(pairs.len())?;
+    if pairs.len() >= pairs.capacity() / 2 {
+        pairs.reserve(pairs.len().max(1))?;
     }
     Ok(())
 }

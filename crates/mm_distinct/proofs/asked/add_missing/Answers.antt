@@ -9,4 +9,4 @@ returns-then-not-is_missing c =
 pub returns : goal.returns
 returns c =
     adds_pair _ _ _ _ _ _ _ (c.is_missing.ensures.0 c.if-not-is_missing.false)
-    c.in_ok-make_room_for_pair.ensures (pair_pushed _ _ _ c.in_ok-push.ensures.items)
+    c.in_ok-make_room_for_pair.ensures.same (pair_pushed _ _ _ c.in_ok-push.ensures.items)
