@@ -1,2 +1,3 @@
 pub mod AskedByNumbers
 pub mod LackingPairs
+pub mod TurnedPairs

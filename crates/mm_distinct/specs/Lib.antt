@@ -1,2 +1,3 @@
 pub mod Mirror
 pub mod Lacking
+pub mod InOrder

@@ -7,3 +7,4 @@ pub mod ApartDetails
 pub mod PairsAsked
 pub mod FaultPlaces
 pub mod NearLabels
+pub mod OrderedPairs

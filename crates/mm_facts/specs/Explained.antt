@@ -2,7 +2,7 @@
 -- own.
 use Rattle.std.specs.Prelude.{◌≡◌, ℕ, suc, ◌+◌, List, [], ◌∷◌, ◌++◌, map, length, codes, decimal}
 use Rattle.std.specs.Prelude.{true, false, ◌⊎◌, if◌then◌else◌, nat_lt, Option, Some, None}
-use Rattle.std.specs.Prelude.{unwrap_or, option_map, slice_get, take}
+use Rattle.std.specs.Prelude.{unwrap_or, option_map, slice_get, take, Contains}
 use Rattle.std.specs.List.{flat_map, AllZip}
 use Rattle.std.specs.Str.{bytes_eq}
 use Rattle.mm_frame.specs.Sentence.{Sentence, SomeSentence, IsLabelled}
@@ -18,7 +18,8 @@ use Rattle.mm_step.specs.Proof.{IsWithin, MeetsHypotheses}
 use Rattle.mm_proof.specs.KnownPrefix.{known_prefix}
 use Rattle.mm_step.specs.Profiles.{limit_of}
 use Rattle.mm_listing.specs.Halted.{Halts}
-use Rattle.mm_proof.specs.Asked.{AsksFor, AreShared, AreMissing}
+use Rattle.mm_proof.specs.Asked.{AsksFor, AreShared, AreMissing, IsEarlier, IsEarlierPair}
+use Rattle.mm_proof.specs.Asked.{StandInOrder}
 use Rattle.mm_distinct.specs.Lacking.{AreLacking}
 use Rattle.mm_places.specs.WholePlaces.{IsWholePlace}
 use Rattle.mm_proof.specs.UnderProfile.{IsFaultUnder, IsPrefixFaultUnder}
@@ -154,13 +155,16 @@ ArePairDetails before rule σ pair details =
     (e : Expression) × (f : Expression) × (σ pair.0 ≡ Some e) × (σ pair.1 ≡ Some f)
     × AreApartDetails before rule pair.0 pair.1 e f details
 
--- What the step by the label on this stack tells of each mandatory pair of its assertion, in some
--- order.
+-- What the step by the label on this stack tells of each mandatory pair of its assertion, in the
+-- order of the declarations of their variables, of which the one that was declared first stands
+-- first.
 pub record ArePairsAsked (before : List Sentence) (rule : ProofRule) (stack : List Expression)
     (label : List ℕ) (details : List Detail) : Type 0 where
   pub met : MeetsHypotheses before stack label
   pub pairs : List (Symbol × Symbol)
   pub mandatory : AreMandatoryPairs (take met.index before) met.assertion pairs
+  pub turned : (p : Symbol × Symbol) → Contains pairs p → IsEarlier before p.0 p.1
+  pub in_order : StandInOrder (IsEarlierPair before) pairs
   pub told : List (List Detail)
   pub each : AllZip (ArePairDetails before rule met.σ) pairs told
   pub all : details ≡ flat_map (λ own. own) told

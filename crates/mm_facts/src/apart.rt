@@ -6,13 +6,14 @@ ghost use Rattle.mm_frame.specs.Numbers.{symbols_of};
 ghost use Rattle.mm_step.specs.declared.fault.ProofRule.TheVariants.{P11, P12};
 ghost use Rattle.mm_step.specs.Stores.{numbers_in, entries_in};
 ghost use Rattle.mm_step.specs.Substitution.{Symbol};
+ghost use Rattle.mm_distinct.specs.InOrder.{AreDifferent, AreInOrder};
 ghost use Rattle.mm_facts.specs.Explained.{details_text, step_lacks};
 ghost use Rattle.mm_facts.specs.Mirror.Explaining.{IsDeclaredIn, AddsApart, AreNamedPairs};
 ghost use Rattle.mm_facts.specs.Mirror.Explaining.{AreEntriesIn, IsPairWithin, AddsPair, AddsPairs};
 ghost use Rattle.mm_frame.specs.declared.distinct.DistinctPair.{DistinctPair};
 
 use crate::told::{push_pair, push_shared, push_step_lacks};
-use mm_distinct::{missing_pairs, shared_variables};
+use mm_distinct::{missing_pairs, pairs_in_order, shared_variables};
 use mm_frame::{Book, DistinctPair, LabelId, Sym};
 use mm_step::ProofRule;
 use std::alloc::{AllocError, Global};
@@ -131,8 +132,8 @@ fn push_apart_pair(
     }
 }
 
-/// What is told of mandatory pairs, where these are the entries of the hypotheses.
-pub(crate) fn push_apart_pairs(
+/// What is told of each of these pairs, where these are the entries of the hypotheses.
+fn push_each_pair(
     out: &mut Vec<u8>,
     alloc: Global,
     book: &Book,
@@ -151,4 +152,27 @@ pub(crate) fn push_apart_pairs(
         push_apart_pair(out, alloc, book, id, rule, entries, *pair)?;
     }
     Ok(())
+}
+
+/// What is told of mandatory pairs, where these are the entries of the hypotheses: in the order of
+/// the declarations of their variables.
+pub(crate) fn push_apart_pairs(
+    out: &mut Vec<u8>,
+    alloc: Global,
+    book: &Book,
+    id: LabelId,
+    rule: ProofRule,
+    entries: &[&[Sym]],
+    pairs: &[DistinctPair],
+) -> Result<(), AllocError>
+    requires entries { AreEntriesIn book.now.statements id.0 (entries_in entries.now) }
+    requires pairs { (i : ℕ) (pair : DistinctPair) → slice_get pairs.now i ≡ Some pair
+        → IsPairWithin book.now.statements (length entries.now) pair }
+    requires different { AreDifferent pairs.now }
+    ensures { OnOk result ((ordered : List DistinctPair) × AreInOrder pairs.now ordered
+        × AddsPairs book.now.statements id.0 rule (entries_in entries.now) ordered
+        out.old.items out.new.items) }
+{
+    let ordered = pairs_in_order(alloc, pairs)?;
+    push_each_pair(out, alloc, book, id, rule, entries, &ordered)
 }

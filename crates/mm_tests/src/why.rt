@@ -8,7 +8,7 @@ use mm_check::WholeQuestion;
 use mm_step::Profile::{Lenient, Strict};
 
 /// Databases with several faults, with one, and with none.
-pub(crate) const EXPLAINED: [(Command<'static>, Case); 13] = [
+pub(crate) const EXPLAINED: [(Command<'static>, Case); 15] = [
     (
         Whole {
             profile: Lenient,
@@ -169,6 +169,75 @@ f.mm:14:6: M2: a symbol of a $c was declared before, or stands twice in it
   the whole proof lacks: $d p s $.
   the whole proof lacks: $d q r $.
   the whole proof lacks: $d q s $.
+1 fault
+",
+            status: 1,
+        },
+    ),
+    (
+        Whole {
+            profile: Lenient,
+            question: WholeQuestion::Why,
+        },
+        Case {
+            name: "a pair whose $f stand in the other order than its variables were declared",
+            files: &[(
+                b"f.mm",
+                &[
+                    Text(b"$c set |- R $. $v x y $.\nvy $f set y $. vx $f set x $.\n"),
+                    Text(b"${ $d x y $. ax $a |- x R y $. $}\n"),
+                    Text(b"q $p |- x R y $= vy vx ax $.\n"),
+                ],
+            )],
+            reply: b"f.mm:4:24: P12: variables aren't stated to be distinct, in the proof of q, at step 3
+  step: ax
+  it asks $d x y $., where x is
+    x
+  and y is
+    y
+  this step lacks: $d x y $.
+  the whole proof lacks: $d x y $.
+1 fault
+",
+            status: 1,
+        },
+    ),
+    (
+        Whole {
+            profile: Lenient,
+            question: WholeQuestion::Why,
+        },
+        Case {
+            name: "three pairs, of which a variable was first declared in a closed block",
+            files: &[(
+                b"f.mm",
+                &[
+                    Text(b"$c set |- R $. ${ $v z $. $} $v x y z u $.\n"),
+                    Text(b"vx $f set x $. vy $f set y $. vz $f set z $. vu $f set u $.\n"),
+                    Text(b"${ $d x y z $. ax $a |- x R y R z $. $}\n"),
+                    Text(b"q $p |- x R y R u $= vx vy vu ax $.\n"),
+                ],
+            )],
+            reply: b"f.mm:4:31: P12: variables aren't stated to be distinct, in the proof of q, at step 4
+  step: ax
+  it asks $d z x $., where z is
+    u
+  and x is
+    x
+  this step lacks: $d x u $.
+  it asks $d z y $., where z is
+    u
+  and y is
+    y
+  this step lacks: $d y u $.
+  it asks $d x y $., where x is
+    x
+  and y is
+    y
+  this step lacks: $d x y $.
+  the whole proof lacks: $d x y $.
+  the whole proof lacks: $d x u $.
+  the whole proof lacks: $d y u $.
 1 fault
 ",
             status: 1,

@@ -85,12 +85,12 @@ module _ {X : Type 0} where
       (subst (CameFrom l a b j) (once v.0 u.0 x at_v at_u) v.3)
 
   -- it does in another order
-  once_permuted : (xs ys : List X) → IsPermutation xs ys → StandsOnce xs → StandsOnce ys
+  pub once_permuted : (xs ys : List X) → IsPermutation xs ys → StandsOnce xs → StandsOnce ys
   once_permuted xs ys moved once = IsPermutation-keeps xs StandsOnce once once_swapped ys moved
 
 -- ==== numbers in order
 
-not_same : (a b : ℕ) → (a ≡ b → ⊥) → a ≤ b → a < b
+pub not_same : (a b : ℕ) → (a ≡ b → ⊥) → a ≤ b → a < b
 not_same a b apart most = elim (cases_lt a b) [
   | inl less ↦ less
   | inr over ↦ absurd (apart (omega arith))
@@ -197,7 +197,7 @@ same_pair p q e =
     let second : p.1.0 ≡ q.1.0 = eqb-true p.1.0 q.1.0 both.1 in
     λ k. (record { 0 = first k }, record { 0 = second k })
 
-by_numbers_total : IsTotalOrder by_numbers
+pub by_numbers_total : IsTotalOrder by_numbers
 by_numbers_total =
     then_total (on_total (λ (p : Sym × Sym). p.0.0) nat_cmp_total)
     (on_total (λ (p : Sym × Sym). p.1.0) nat_cmp_total)

@@ -1,23 +1,32 @@
--- One pair more.
-use Rattle.std.proofs.Common.{take, subst, arith}
-use Rattle.std.proofs.lemmas.List.{take_all}
-use Rattle.mm_step.specs.Stores.{entries_in}
+-- What is told of the pairs in order is told of all.
+use Rattle.std.proofs.Common.{sym, subst, length, ◌≡◌, slice_get, Some, List}
+use Rattle.std.proofs.lemmas.Result.{on_ok_weaker}
+use Rattle.mm_base.proofs.Lists.{contains_from_at}
 use Rattle.mm_frame.specs.declared.distinct.DistinctPair.{DistinctPair}
-use Rattle.std.proofs.Common.{List}
-use Rattle.mm_facts.specs.Mirror.Explaining.{AddsPairs}
-use Rattle.mm_facts.proofs.ApartDetails.{pairs_told}
+use Rattle.mm_distinct.specs.InOrder.{AreInOrder}
+use Rattle.mm_distinct.proofs.TurnedPairs.{holds_ordered}
+use Rattle.mm_facts.specs.Mirror.Explaining.{IsPairWithin}
 use Rattle.mm_facts.proofs.apart.push_apart_pairs.Goals as goal
 
-pub loop-pair-preserved : goal.loop-pair-preserved
-loop-pair-preserved c = λ index s proof given zip declared σ replaced.
+pub push_each_pair-requires-clause-pairs : goal.push_each_pair-requires-clause-pairs
+push_each_pair-requires-clause-pairs c = λ i p there.
     let st = c.args.book.now.statements in
-    pairs_told st (take index st) c.args.rule σ given c.args.pairs.now c.loop-pair.pair-index _
-    c.args.out.now.items c.loop-pair.out.items c.push_apart_pair.new.out.items c.loop-pair-test.true replaced
-    (λ those. c.loop-pair.invariant index s proof given zip declared σ those)
-    (λ first second. c.in_ok-push_apart_pair.ensures index s proof given zip declared σ first second)
+    let count = length c.args.entries.now in
+    let own : slice_get c.in_ok-ordered.ordered.items i ≡ Some p =
+    subst (λ (ps : List DistinctPair). slice_get ps i ≡ Some p) c.deref.ensures.value there in
+    holds_ordered c.args.pairs.now c.in_ok-ordered.ordered.items c.in_ok-ordered.ensures
+    (λ q. IsPairWithin st count q)
+    (λ j q at.
+    let w = c.requires.pairs j q at in
+    (w, record { x = w.y; y = w.x; first = w.second; second = w.first }))
+    p (contains_from_at c.in_ok-ordered.ordered.items p (i, own))
 
 pub returns : goal.returns
 returns c =
-    subst (λ (ps : List DistinctPair). AddsPairs c.args.book.now.statements c.args.id.0 c.args.rule (entries_in c.args.entries.now) ps
-    c.args.out.now.items c.loop-pair.out.items)
-    (take_all c.loop-pair.pair-index c.args.pairs.now (let end = c.loop-pair-test.false in omega arith)) c.loop-pair.invariant
+    on_ok_weaker c.push_each_pair.result
+    (λ added. (
+      c.deref.result.now,
+      subst (AreInOrder c.args.pairs.now) (sym c.deref.ensures.value) c.in_ok-ordered.ensures,
+      added,
+    ))
+    c.push_each_pair.ensures

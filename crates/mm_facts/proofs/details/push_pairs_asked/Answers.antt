@@ -1,12 +1,17 @@
 -- The step meets its hypotheses, and each member of a mandatory pair is replaced by an entry.
-use Rattle.std.proofs.Common.{◌≡◌, ◌+◌, ◌-◌, ℕ, length, take, arith, rules, refl, sym, subst, ap, vec_len}
+use Rattle.std.proofs.Common.{◌≡◌, ◌+◌, ◌-◌, ◌<◌, ℕ, length, take, arith, rules, refl, sym, subst}
+use Rattle.std.proofs.Common.{ap, vec_len, slice_get, Some}
 use Rattle.std.specs.List.{AllZip}
 use Rattle.std.proofs.lemmas.Result.{on_ok_weaker}
-use Rattle.mm_frame.specs.Numbers.{AreNumbers}
+use Rattle.mm_frame.specs.Numbers.{AreNumbers, symbols_of}
+use Rattle.mm_frame.specs.declared.distinct.DistinctPair.{DistinctPair}
 use Rattle.mm_step.specs.Stores.{entries_in}
 use Rattle.mm_proof.proofs.ProofNumbers.NamedAssertions.{assertion_number}
 use Rattle.mm_rules.specs.Mirror.Explaining.{named_pairs}
-use Rattle.mm_facts.specs.Mirror.Explaining.{IsPairWithin}
+use Rattle.mm_base.proofs.Lists.{contains_from_at}
+use Rattle.mm_distinct.proofs.TurnedPairs.{holds_ordered}
+use Rattle.mm_facts.specs.Mirror.Explaining.{IsPairWithin, ReplacesBy}
+use Rattle.mm_facts.proofs.OrderedPairs.{mandatory_ordered, turned_named, order_named}
 use Rattle.std.specs.List.{flat_map}
 use Rattle.mm_facts.proofs.HaltDetails.{step_left}
 use Rattle.mm_facts.proofs.AskedDetails.{sizes, count_entries}
@@ -87,6 +92,9 @@ push_apart_pairs-requires-clause-pairs c = λ i p there.
     let size : length c.hypotheses.result.now ≡ length c.deref.result.now = omega arith in
     subst (λ (n : ℕ). IsPairWithin st n p) size (scene.within i p there)
 
+pub push_apart_pairs-requires-clause-different : goal.push_apart_pairs-requires-clause-different
+push_apart_pairs-requires-clause-different c = c.pairs.ensures.variables.once
+
 pub returns : goal.returns
 returns c =
     on_ok_weaker c.push_apart_pairs.result
@@ -109,7 +117,19 @@ returns c =
     c.hypotheses.result.now c.hypotheses.ensures.ids c.pairs.result.now c.pairs.ensures.variables c.pairs.ensures.indices
     step.label step.numbered m base sum (entries_in es) count c.in_ok-entries.ensures.entries in
     let zip = subst (λ ls. AllZip (AreNumbers st) (entries_in ls) m.entries) (sym c.deref.ensures.value) scene.zip in
-    let told = added index s number m.entries zip scene.declared m.σ scene.replaced in (
+    let ordered = added.0 in
+    let symbols : (i : ℕ) (p : DistinctPair) → slice_get c.pairs.result.now i ≡ Some p
+    → (p.variables.0.0 < length (symbols_of st)) × (p.variables.1.0 < length (symbols_of st)) =
+    λ i p there. let w = scene.within i p there in (w.x, w.y) in
+    let replaced : (i : ℕ) (p : DistinctPair) → slice_get ordered i ≡ Some p
+    → ReplacesBy st m.σ m.entries p.variables.0.0 p.indices.0
+    × ReplacesBy st m.σ m.entries p.variables.1.0 p.indices.1 = λ i p there.
+    holds_ordered c.pairs.result.now ordered added.1
+    (λ q. ReplacesBy st m.σ m.entries q.variables.0.0 q.indices.0
+    × ReplacesBy st m.σ m.entries q.variables.1.0 q.indices.1)
+    (λ j q at. let r = scene.replaced j q at in (r, (r.1, r.0))) p
+    (contains_from_at ordered p (i, there)) in
+    let told = added.2 index s number m.entries zip scene.declared m.σ replaced in (
       flat_map (λ own. own) told.0,
       (
         step.label,
@@ -117,8 +137,13 @@ returns c =
         step.first,
         record {
           met = m;
-          pairs = named_pairs st c.pairs.result.now;
-          mandatory = scene.mandatory;
+          pairs = named_pairs st ordered;
+          mandatory = mandatory_ordered st index m.index m.assertion c.pairs.result.now ordered
+              added.1 scene.mandatory symbols;
+          turned = turned_named st index m.index m.assertion c.pairs.result.now ordered
+              added.1 scene.mandatory symbols;
+          in_order = order_named st index m.index m.assertion c.pairs.result.now ordered
+              added.1 scene.mandatory symbols;
           told = told.0;
           each = told.1;
           all = refl;

@@ -2,7 +2,7 @@
 use Rattle.std.proofs.Common.{take}
 use Rattle.mm_step.specs.Stores.{entries_in}
 use Rattle.mm_facts.specs.Mirror.Explaining.{AddsPairs}
-use Rattle.mm_facts.proofs.apart.push_apart_pairs.Given as goal
+use Rattle.mm_facts.proofs.apart.push_each_pair.Given as goal
 
 abbrev pub invariant-loop-pair : goal.invariant-loop-pair
 invariant-loop-pair l =
