@@ -1,7 +1,7 @@
 //! A file with a text in place of a span of its bytes.
 
 ghost use Rattle.std.specs.Prelude.{◌≡◌, ◌<◌, ◌≤◌, ◌↔◌, List, ℕ, map, length, IfOk, IfErr};
-ghost use Rattle.std.specs.Prelude.{IsTrue};
+ghost use Rattle.std.specs.Prelude.{[], ◌+◌, ◌-◌, min, vec_capacity, IsTrue};
 ghost use Rattle.mm_base.specs.MostBytes.{most_bytes};
 ghost use Rattle.mm_text.specs.Files.{plain_file, total_bytes};
 ghost use Rattle.mm_text.specs.Replaced.{with_span};
@@ -15,6 +15,24 @@ use mm_rules::{AskFault, size_of};
 use mm_text::BYTE_LIMIT;
 use std::alloc::{AllocError, Global};
 
+/// Empty, with room for the bytes with a text in place of those of a span.
+fn room_for(
+    alloc: Global,
+    bytes: &[u8],
+    span: (u32, u32),
+    text: &[u8],
+) -> Result<Vec<u8>, AllocError>
+    ensures empty { IfOk result (λ new. new.items ≡ []) }
+    ensures exact { IfOk result (λ new. vec_capacity new
+        ≡ min usize.MAX (span.0 + length text.now + (length bytes.now - span.1))) }
+{
+    let kept = bytes.len().saturating_sub(span.1 as usize);
+    let room = (span.0 as usize)
+        .saturating_add(text.len())
+        .saturating_add(kept);
+    Vec::with_capacity(alloc, room)
+}
+
 /// The bytes with a text in place of those of a span.
 fn with_text(
     alloc: Global,
@@ -26,8 +44,7 @@ fn with_text(
     requires stop { span.1 ≤ length bytes.now }
     ensures { IfOk result (λ new. new.items ≡ with_span bytes.now span text.now) }
 {
-    let room = bytes.len().saturating_add(text.len());
-    let mut new = Vec::with_capacity(alloc, room)?;
+    let mut new = room_for(alloc, bytes, span, text)?;
     new.extend_from_slice(&bytes[..span.0 as usize])?;
     new.extend_from_slice(text)?;
     new.extend_from_slice(&bytes[span.1 as usize..])?;

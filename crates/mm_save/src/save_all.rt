@@ -1,6 +1,6 @@
 //! A file with each complete proof written anew.
 
-ghost use Rattle.std.specs.Prelude.{◌≡◌, ◌<◌, ◌≤◌, ◌↔◌, [], List, ℕ, map, length};
+ghost use Rattle.std.specs.Prelude.{◌≡◌, ◌-◌, ◌<◌, ◌≤◌, ◌↔◌, [], List, ℕ, map, length};
 ghost use Rattle.std.specs.Prelude.{OnOk, IfOk, IfErr, IsTrue, None, ◌⊎◌};
 ghost use Rattle.mm_base.specs.declared.statement.Kind.TheVariants.{Provable};
 ghost use Rattle.mm_base.specs.Statement.{PlainStatement, plain_statement, HasForm};
@@ -152,7 +152,9 @@ impl<'a> NewFile<'a> {
     }
 
     /// How many bytes what was put has less than what was taken.
-    pub fn saved(&self) -> usize {
+    pub fn saved(&self) -> usize
+        ensures { result ≡ self.now.taken - length self.now.bytes.items }
+    {
         self.taken.saturating_sub(self.bytes.len())
     }
 
