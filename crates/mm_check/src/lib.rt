@@ -1,8 +1,9 @@
 //! The commands and their replies: the front of the library.
 //! It answers `run` and `reply_to`: files and a command in, the text and the status of the reply
-//! out. It stands on all wings: verdict, axioms, texts, explanations, saving, shorter proofs. Begin
-//! with `command`, then `question` (of databases in which nothing is at fault) and `alone` (of one
-//! theorem, whatever its proof). What a reply is stands in `specs/Reply.antt`.
+//! out. It stands on all crates that answer questions: verdict, axioms, texts, explanations,
+//! saving, shorter proofs. Begin with `command`, then `question` (of databases in which nothing is
+//! at fault) and `alone` (of one theorem, whatever its proof). What a reply is stands in
+//! `specs/Reply.antt`.
 #![tactic(auto)]
 
 mod alike;

@@ -1,6 +1,5 @@
-//! The distinct variables that a step asks for, and those of its statement that are missing.
-//! It answers what P11 and P12 have to tell: `shared_variables`, `asked_by`, `lacking_pairs`,
-//! `pairs_in_order`.
+//! The distinct variables that a step asks for, and the `$d` that its theorem lacks.
+//! It answers what P11 and P12 have to tell: `shared_variables`, `asked_by`, `lacking_pairs`.
 //! Whether a step passes is judged in `mm_step`, in `pairs`. It stands on `mm_proof`. Begin with
 //! `lacking`; what is missing is defined in `specs/Lacking.antt`.
 #![tactic(auto)]

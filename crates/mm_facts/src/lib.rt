@@ -1,8 +1,9 @@
 //! What is told of a faulty proof: what was asked at the step at fault, and what was found.
-//! It answers `cause_of` and `push_cause`, which make the message of each rule P1 to P15. It stands
-//! on `mm_rules`, `mm_listing`, `mm_places` and `mm_distinct`, and not on the verdict. Begin with
-//! `details`; `apart` has P11 and P12, `told` the lines that others share, `fault_places` the
-//! places. What is told is defined in `specs/Explained.antt`.
+//! It answers `cause_of` and `push_cause`, which make what stands below the head of a message, for
+//! P and L1. It stands on `mm_rules`, `mm_listing`, `mm_places` and `mm_distinct`, and not on the
+//! verdict. Begin with `details`, which has the order of the facts; `apart` has the pairs of P11
+//! and P12, `told` the words of every fact, `fault_places` the places. What is told is defined in
+//! `specs/Explained.antt`.
 #![tactic(auto)]
 
 mod apart;

@@ -1,7 +1,8 @@
 //! The forms of a proof: normal, fully shared, packed and small; and whether two proofs are one.
 //! It answers `expand`, `compress`, `compress_small` and `same`. It stands on `mm_proof`. Begin
 //! with `packing`: a proof's steps are run on a `Builder`, which gives equal subtrees one number.
-//! What a form is stands in `specs/Packing.antt` and `specs/SmallProofs.antt`.
+//! What a packed proof is stands in `specs/Packing.antt`, what a small one is in
+//! `specs/SmallProofs.antt`; the texts of all forms are made in `mm_render`.
 #![tactic(auto)]
 
 mod builder;

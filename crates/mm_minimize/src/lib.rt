@@ -1,6 +1,6 @@
-//! Shorter proofs of the theorems of a database, by what stands before each.
+//! Shorter proofs of the theorems of a database, by earlier assertions alone.
 //! It answers `minimized` for one theorem, and a list or a file for all. What `mm_shorten` finds is
-//! judged here, so that nothing of the search is trusted. It stands on `mm_save`, `mm_axioms`,
+//! judged here, so that nothing of the search is trusted. It stands on `mm_save`, `mm_axioms` and
 //! `mm_shorten`. Begin with `minimize`, then `shortening`; what a shorter proof is stands in
 //! `specs/Shorter.antt` of `mm_render`.
 #![tactic(auto)]

@@ -1,7 +1,7 @@
 //! One proof: what it derives, or its first fault.
-//! It answers `Prover::prove`, which judges the proof of a statement and takes that in; and it
-//! reads a proof into steps (`Steps::parse`) and runs them on any `Machine`. It stands on
-//! `mm_step`. Begin with `prover`, then `verdict` and `judge`. What a proof is stands in
+//! It answers `Prover::prove`, which judges the proof of a statement that `Prover::take` has taken
+//! in; and it reads a proof into steps (`Steps::parse`) and runs them on any `Machine`. It stands
+//! on `mm_step`. Begin with `prover`, then `verdict` and `judge`. What a proof is stands in
 //! `specs/Proof.antt`.
 #![tactic(auto)]
 

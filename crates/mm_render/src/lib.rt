@@ -1,7 +1,9 @@
-//! Statements and proofs as texts: listings, the forms of a proof, a file with one proof replaced.
+//! Statements and proofs as texts: listings, the forms of a proof, the bytes of a file with one
+//! proof replaced.
 //! It answers the questions `statement`, `show`, `normal`, `packed`, `small` and `same` of a
 //! `Checked`. It stands on `mm_verdict`, `mm_forms` and `mm_listing`. Begin with `asked_texts`,
-//! which has a function for each question.
+//! which has a function for each question; `forms` has the match over the forms, and
+//! `specs/Forms.antt` what the text of each is.
 #![tactic(auto)]
 
 mod asked_texts;
