@@ -6,5 +6,8 @@ pub mod LackingDetails
 pub mod ApartDetails
 pub mod PairsAsked
 pub mod FaultPlaces
+pub mod Scripts
+pub mod FirstChanges
+pub mod Offers
 pub mod NearLabels
 pub mod OrderedPairs

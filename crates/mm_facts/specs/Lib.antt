@@ -1,4 +1,6 @@
 pub mod Mirror
+pub mod Changes
+pub mod Near
 pub mod Explained
 pub mod Why
 pub mod MeaningFacts

@@ -2,11 +2,13 @@
 //! It answers `cause_of` and `push_cause`, which make what stands below the head of a message, for
 //! P and L1. It stands on `mm_rules`, `mm_listing`, `mm_places` and `mm_distinct`, and not on the
 //! verdict. Begin with `details`, which has the order of the facts; `apart` has the pairs of P11
-//! and P12, `told` the words of every fact, `fault_places` the places. What is told is defined in
+//! and P12, `told` the words of every fact, `fault_places` the places, `near` the label that is
+//! nearest to an unknown one, by the fewest `changes`. What is told is defined in
 //! `specs/Explained.antt`.
 #![tactic(auto)]
 
 mod apart;
+mod changes;
 mod details;
 mod fault_places;
 mod near;
