@@ -1,7 +1,7 @@
 //! The facts that explain a fault of the text.
 
 ghost use Rattle.std.specs.Prelude.{◌≡◌, ◌++◌, List, [], map, not, true, option_map, Option, Some};
-ghost use Rattle.std.specs.Prelude.{IfOk, OnOk, if◌then◌else◌};
+ghost use Rattle.std.specs.Prelude.{IfErr, IfOk, OnOk, if◌then◌else◌};
 ghost use Rattle.std.specs.List.{prefix_len};
 ghost use Rattle.mm_base.specs.Token.{plain_token, is_space as is_white_space};
 ghost use Rattle.mm_base.specs.Statement.{PlainStatement, plain_statement};
@@ -78,8 +78,9 @@ pub fn next<'a>(
     statements: &mut Statements<'a>,
     into: &mut Statement<'a>,
 ) -> Result<bool, AllocError>
-    ensures { IfOk result (λ more.
+    ensures read { IfOk result (λ more.
         ReadsOn statements.old more (plain_statement into.new) statements.new) }
+    ensures memory { IfErr result (λ fault. statements.new.refused ≡ true) }
 {
     match statements.read(into) {
         Ok(more) => Ok(more),
@@ -111,6 +112,7 @@ fn read_closed<'a>(
         ≡ last_of (closing_tokens statements.old.statements)) }
     ensures none { OnOk result (statements.new.statements ≡ []) }
     ensures ending { OnOk result (statements.new.ending ≡ statements.old.ending) }
+    ensures memory { IfErr result (λ fault. statements.new.refused ≡ true) }
 {
     let mut closed = None;
     while next(statements, into)? {
@@ -139,6 +141,7 @@ fn last_closed<'a>(
 fn read_out<'a>(statements: &mut Statements<'a>, into: &mut Statement<'a>) -> Result<(), AllocError>
     ensures none { OnOk result (statements.new.statements ≡ []) }
     ensures ending { OnOk result (statements.new.ending ≡ statements.old.ending) }
+    ensures memory { IfErr result (λ fault. statements.new.refused ≡ true) }
 {
     while next(statements, into)? {}
     Ok(())
@@ -151,7 +154,8 @@ fn unclosed_in<'a>(
     file: usize,
 ) -> Result<Option<usize>, AllocError>
     requires { statements.old.statements ≡ [] }
-    ensures { IfOk result (λ begin. begin ≡ unclosed_in_of file statements.old.ending) }
+    ensures begin { IfOk result (λ begin. begin ≡ unclosed_in_of file statements.old.ending) }
+    ensures memory { IfErr result (λ fault. statements.new.refused ≡ true) }
 {
     match statements.read(into) {
         Err(

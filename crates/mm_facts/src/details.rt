@@ -12,6 +12,7 @@ ghost use Rattle.mm_step.specs.declared.fault.ProofRule.TheVariants.{P2, P8, P9,
 ghost use Rattle.mm_step.specs.Stores.{entries_in};
 ghost use Rattle.mm_listing.specs.Halted.{TellsEntry};
 ghost use Rattle.mm_proof.specs.Parsed.{OfProof, SaySteps};
+ghost use Rattle.mm_proof.specs.ReadSteps.{ReadSteps};
 ghost use Rattle.mm_proof.specs.Verified.{OfMoves};
 ghost use Rattle.mm_step.specs.Substitution.{Symbol};
 ghost use Rattle.mm_step.specs.Steps.{IsProofNumber, AreSteps, IsNumberedMove};
@@ -315,6 +316,18 @@ fn push_whole(
     }
 }
 
+/// The moves of a whole proof, or those of a known prefix.
+fn judged(parsed: Parsed) -> Steps
+    ensures whole { (steps : ReadSteps) → parsed ≡ Parsed.Steps steps → result ≡ steps }
+    ensures known { (steps : ReadSteps) → parsed ≡ Parsed.Incomplete steps
+        → result ≡ steps }
+{
+    match parsed {
+        Parsed::Steps(steps) => steps,
+        Parsed::Incomplete(steps) => steps,
+    }
+}
+
 /// The moves that the tokens, or those of their known prefix, say.
 fn steps_of(
     alloc: Global,
@@ -329,8 +342,7 @@ fn steps_of(
     ensures { IfOk result (AreJudgedSteps profile book.now.statements id.0 (texts tokens.now)) }
 {
     match Steps::parse(alloc, profile, book, id, tokens) {
-        Ok(Parsed::Steps(steps)) => Ok(steps),
-        Ok(Parsed::Incomplete(steps)) => Ok(steps),
+        Ok(parsed) => Ok(judged(parsed)),
         Err(ProofFault::Memory) => Err(AllocError),
         // What breaks a rule over all of the tokens isn't asked for.
         Err(ProofFault::Rule { .. }) => unreachable!(),

@@ -16,11 +16,11 @@ loop-labels-preserved c =
           (c.next.new.into.label ∷ []),
     )
     (listing_on c.loop-labels.invariant c.next.new.statements (plain_statement c.next.new.into)
-    (rw c.if-branch.true at c.in_ok-next.ensures))
+    (rw c.if-branch.true at c.in_ok-next.ensures.read))
 
 pub returns : goal.returns
 returns c =
-    let on = rw c.if-branch.false at c.in_ok-next.ensures in
+    let on = rw c.if-branch.false at c.in_ok-next.ensures.read in
     all_listed (map plain_file c.args.files.now) c.in_ok-statements.statements
     c.loop-labels.statements (map (option_map plain_token) c.loop-labels.labels.items)
     c.in_ok-statements.ensures c.loop-labels.invariant on.0

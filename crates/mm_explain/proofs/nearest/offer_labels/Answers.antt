@@ -10,7 +10,7 @@ pub loop-label-preserved-in-Continue-branch-2 : goal.loop-label-preserved-in-Con
 loop-label-preserved-in-Continue-branch-2 c =
     searched_on c.args.statements.now.statements c.loop-label.statements c.next.new.statements
     c.loop-label.nearest.found (plain_statement c.next.new.into) c.loop-label.invariant
-    (rw c.if-branch.true at c.in_ok-next.ensures) c.in-Some.label.text c.offer.new.self.found
+    (rw c.if-branch.true at c.in_ok-next.ensures.read) c.in-Some.label.text c.offer.new.self.found
     (ap (λ o. option_map (λ (t : PlainToken). t.text) (option_map plain_token o)) c.in-Some.is)
     (kept_or_before c.loop-label.nearest.wanted.now c.in-Some.label.text c.loop-label.nearest.limit
     c.offer.new.self.limit c.loop-label.nearest.found c.offer.new.self.found
@@ -20,4 +20,4 @@ pub loop-label-preserved : goal.loop-label-preserved
 loop-label-preserved c =
     searched_past c.args.statements.now.statements c.loop-label.statements c.next.new.statements
     c.loop-label.nearest.found (plain_statement c.next.new.into) c.loop-label.invariant
-    (rw c.if-branch.true at c.in_ok-next.ensures)
+    (rw c.if-branch.true at c.in_ok-next.ensures.read)

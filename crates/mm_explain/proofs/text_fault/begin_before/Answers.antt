@@ -24,4 +24,4 @@ returns c =
           c.in_ok-statements.ensures.reads;
       same = same ∙ ap (unclosed_in c.args.file) c.in_ok-read_out.ensures.ending;
     })
-    c.unclosed_in.ensures
+    c.unclosed_in.ensures.begin

@@ -9,5 +9,5 @@ pub loop-into-preserved : goal.loop-into-preserved
 loop-into-preserved c =
     rw c.closed_by-closed.ensures
     (reading_on c.loop-into.invariant c.next.new.statements (plain_statement c.next.new.into)
-    (rw c.if-branch.true at c.in_ok-next.ensures)
+    (rw c.if-branch.true at c.in_ok-next.ensures.read)
     (is_closing (plain_statement c.next.new.into).kind) refl)
