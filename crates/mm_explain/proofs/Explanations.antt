@@ -34,7 +34,7 @@ use Rattle.mm_explain.specs.Why.{IsExplanation, IsLastExplanation, TellsFaults}
 use Rattle.mm_verdict.specs.Why.{is_of_proofs}
 use Rattle.mm_explain.specs.Why.{most_explained, head_text}
 use Rattle.mm_facts.specs.Why.{IsFaultPlace}
-use Rattle.mm_explain.specs.Why.{more_text, count_text}
+use Rattle.mm_explain.specs.Why.{listing_words, more_text, count_text}
 use Rattle.mm_facts.specs.Explained.{IsTokensFault, Detail, AreDetails, detail_text, details_text}
 use Rattle.mm_verdict.specs.Faults.{HaveFaults}
 use Rattle.mm_explain.specs.Later.{IsUnknownIn, stated_later}
@@ -63,9 +63,9 @@ eight_parts out a b c d e f g h o₁ o₂ o₃ o₄ o₅ o₆ o₇ o₈ h₁ h�
     rw (h₈, h₇, h₆, h₅, h₄, h₃, h₂, h₁) (simp append_assoc)
 
 -- how many more there are, where there are some
-pub some_more : (count : ℕ) → (count ≡ 0 → ⊥)
-    → more_text count ≡ codes "and " ++ decimal count ++ codes " more, which mm faults lists\n"
-some_more count some =
+pub some_more : (profile : Profile) (count : ℕ) → (count ≡ 0 → ⊥)
+    → more_text profile count ≡ codes "and " ++ decimal count ++ listing_words profile
+some_more profile count some =
     let other : (count == 0) ≡ false =
     false_from_ne_true (count == 0) (λ e. some (eqb-true count 0 e)) in
     rw other refl
@@ -410,7 +410,7 @@ module _ (profile : Profile) (files : List PlainFile) (listed : List PlainRefusa
     (kept : map plain_refusal refusals ≡ listed)
     (explained : AreExplained profile files listed text₀)
     (others : AllByRecursion (λ r. is_of_proofs r.rule ≡ false) (map plain_refusal ends))
-    (put₁ : text₁ ≡ text₀ ++ more_text (length refusals - most_explained))
+    (put₁ : text₁ ≡ text₀ ++ more_text profile (length refusals - most_explained))
     (told : List (List ℕ)) (ended : AllZip (IsLastExplanation files) (map plain_refusal ends) told)
     (put₂ : text₂ ≡ text₁ ++ flat_map (λ t. t) told) where
   tells : (count : ℕ) → count ≡ length (listed ++ map plain_refusal ends)

@@ -11,6 +11,7 @@ use Rattle.mm_text.specs.Reading.{PlainFault, Reads}
 use Rattle.mm_frame.specs.Sentence.{Sentence, sentence_of}
 use Rattle.mm_step.specs.declared.fault.ProofRule.{ProofRule}
 use Rattle.mm_step.specs.declared.profile.Profile.{Profile}
+use Rattle.mm_step.specs.declared.profile.Profile.TheVariants as profiles
 use Rattle.mm_rules.specs.declared.rule.Rule.{Rule}
 use Rattle.mm_rules.specs.declared.rule.Rule.TheVariants as rules
 use Rattle.mm_rules.specs.RuleCodes.{code_of}
@@ -97,11 +98,15 @@ pub record IsLastExplanation (files : List PlainFile) (refusal : PlainRefusal)
 abbrev pub most_explained : ℕ
 most_explained = 10
 
+-- the question that lists them under the profile
+abbrev pub listing_words : Profile → List ℕ
+listing_words profiles.Strict = codes " more, which mm faults --strict lists\n"
+listing_words profiles.Lenient = codes " more, which mm faults lists\n"
+
 -- the line that tells how many faults of proofs aren't explained, if there are such
-abbrev pub more_text : ℕ → List ℕ
-more_text count =
-    if count == 0 then []
-    else (codes "and " ++ decimal count ++ codes " more, which mm faults lists\n")
+abbrev pub more_text : Profile → ℕ → List ℕ
+more_text profile count =
+    if count == 0 then [] else (codes "and " ++ decimal count ++ listing_words profile)
 
 -- the last line, which tells how many faults there are
 abbrev pub count_text : ℕ → List ℕ
@@ -119,6 +124,6 @@ pub record TellsFaults (profile : Profile) (files : List PlainFile) (refusals : 
   pub ended : AllZip (IsLastExplanation files) (filter (λ r. not (is_of_proofs r.rule)) refusals)
       last
   pub said : text ≡ flat_map (λ t. t) explanations
-      ++ more_text (length (filter (λ r. is_of_proofs r.rule) refusals) - most_explained)
+      ++ more_text profile (length (filter (λ r. is_of_proofs r.rule) refusals) - most_explained)
       ++ flat_map (λ t. t) last
       ++ count_text (length refusals)

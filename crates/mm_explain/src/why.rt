@@ -17,6 +17,7 @@ ghost use Rattle.mm_explain.specs.Why.{owner_words as owner_words_of, owner_text
 ghost use Rattle.mm_explain.specs.Why.{head_at, head_text, IsExplanation, IsLastExplanation};
 ghost use Rattle.mm_verdict.specs.Why.{is_of_proofs};
 ghost use Rattle.mm_explain.specs.Why.{most_explained, more_text, count_text};
+ghost use Rattle.mm_explain.specs.Why.{listing_words as listing_words_of};
 ghost use Rattle.mm_verdict.specs.Reply.{refusal_status};
 ghost use Rattle.mm_facts.specs.Explained.{details_text};
 ghost use Rattle.mm_explain.specs.Later.{IsUnknownIn, stated_later};
@@ -139,17 +140,27 @@ pub fn push_head(
     push_head_at(out, files, position, fault, refusal.label)
 }
 
-/// Puts at the end how many faults of proofs aren't explained, if there are such.
+/// The question that lists all faults of proofs under the profile.
+fn listing_words(profile: Profile) -> &'static [u8]
+    ensures { result.now ≡ listing_words_of profile }
+{
+    match profile {
+        Profile::Strict => b" more, which mm faults --strict lists\n",
+        Profile::Lenient => b" more, which mm faults lists\n",
+    }
+}
+
+/// Puts at the end how many faults of proofs aren't explained under the profile, if there are such.
 #[tactic(auto, using(mm_facts::proofs::DetailTexts::three_parts))]
-fn push_more(out: &mut Vec<u8>, count: usize) -> Result<(), AllocError>
-    ensures { OnOk result (out.new.items ≡ out.old.items ++ more_text count) }
+fn push_more(out: &mut Vec<u8>, profile: Profile, count: usize) -> Result<(), AllocError>
+    ensures { OnOk result (out.new.items ≡ out.old.items ++ more_text profile count) }
 {
     if count == 0 {
         return Ok(());
     }
     out.extend_from_slice(b"and ")?;
     push_decimal(out, count)?;
-    out.extend_from_slice(b" more, which mm faults lists\n")?;
+    out.extend_from_slice(listing_words(profile))?;
     Ok(())
 }
 
@@ -400,13 +411,13 @@ impl<'a> Reasons<'a> {
     /// Tells how many faults of proofs aren't explained.
     fn tell_more(&mut self) -> Result<(), AllocError>
         ensures text { OnOk result (self.new.text.items ≡ self.old.text.items
-            ++ more_text (length self.old.refusals.items - most_explained)) }
+            ++ more_text self.old.profile (length self.old.refusals.items - most_explained)) }
         ensures kept { self.new.refusals ≡ self.old.refusals }
         ensures profile { self.new.profile ≡ self.old.profile }
         ensures files { self.new.files ≡ self.old.files }
     {
         let more = self.refusals.len().saturating_sub(MOST_EXPLAINED);
-        push_more(&mut self.text, more)
+        push_more(&mut self.text, self.profile, more)
     }
 
     /// Explains the fault that ended the run, and keeps it.

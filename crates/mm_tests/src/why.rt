@@ -8,7 +8,7 @@ use mm_check::WholeQuestion;
 use mm_step::Profile::{Lenient, Strict};
 
 /// Databases with several faults, with one, and with none.
-pub(crate) const EXPLAINED: [(Command<'static>, Case); 15] = [
+pub(crate) const EXPLAINED: [(Command<'static>, Case); 16] = [
     (
         Whole {
             profile: Lenient,
@@ -84,6 +84,49 @@ f.mm:14:6: M2: a symbol of a $c was declared before, or stands twice in it
   token: a
   declared: f.mm:1:4
 13 faults
+",
+            status: 1,
+        },
+    ),
+    (
+        Whole {
+            profile: Strict,
+            question: WholeQuestion::Why,
+        },
+        Case {
+            name: "eleven faulty proofs, under the strict profile",
+            files: &[(
+                b"f.mm",
+                &[
+                    Text(b"$c a $.\n"),
+                    Text(b"p01 $p a $= nope $.\np02 $p a $= nope $.\np03 $p a $= nope $.\n"),
+                    Text(b"p04 $p a $= nope $.\np05 $p a $= nope $.\np06 $p a $= nope $.\n"),
+                    Text(b"p07 $p a $= nope $.\np08 $p a $= nope $.\np09 $p a $= nope $.\n"),
+                    Text(b"p10 $p a $= nope $.\np11 $p a $= nope $.\n"),
+                ],
+            )],
+            reply: b"f.mm:2:13: P2: no earlier statement has the label, in the proof of p01
+  token: nope
+f.mm:3:13: P2: no earlier statement has the label, in the proof of p02
+  token: nope
+f.mm:4:13: P2: no earlier statement has the label, in the proof of p03
+  token: nope
+f.mm:5:13: P2: no earlier statement has the label, in the proof of p04
+  token: nope
+f.mm:6:13: P2: no earlier statement has the label, in the proof of p05
+  token: nope
+f.mm:7:13: P2: no earlier statement has the label, in the proof of p06
+  token: nope
+f.mm:8:13: P2: no earlier statement has the label, in the proof of p07
+  token: nope
+f.mm:9:13: P2: no earlier statement has the label, in the proof of p08
+  token: nope
+f.mm:10:13: P2: no earlier statement has the label, in the proof of p09
+  token: nope
+f.mm:11:13: P2: no earlier statement has the label, in the proof of p10
+  token: nope
+and 1 more, which mm faults --strict lists
+11 faults
 ",
             status: 1,
         },

@@ -25,7 +25,7 @@ returns-in-Ok-clause-why c =
     reasons.text.items c.tell_more.new.self.text.items c.tell_more.new.self.text.items
     c.in_ok-text-in-Ok.text.items (number_of c.in_ok-text-in-Ok.status)
     (rw (append-nil v.listed) v.faults) v.seen.kept v.seen.explained tt
-    c.in_ok-tell_more-in-Ok.ensures.text [] tt (sym (append-nil _)) c.tell_more.new.self.refusals.items
+    (rw v.seen.same_profile at c.in_ok-tell_more-in-Ok.ensures.text) [] tt (sym (append-nil _)) c.tell_more.new.self.refusals.items
     (ap (λ r. r.items) c.in_ok-tell_more-in-Ok.ensures.kept ∙ sym (append-nil _))
     (rw c.in_ok-tell_more-in-Ok.ensures.kept
     (some_there reasons.refusals (sym c.if-is_empty.ensures)))
@@ -64,7 +64,8 @@ returns-in-Err-Refused-clause-why c =
     tells_why c.args.profile files m.listed reasons.refusals.items (last ∷ []) reasons.text.items
     c.tell_more-in-Err-Refused.new.self.text.items c.tell_last.new.self.text.items
     c.in_ok-text-in-Err-Refused.text.items (number_of c.in_ok-text-in-Err-Refused.status)
-    (rw none at m.faults) m.seen.kept m.seen.explained (other, tt) told.text (text ∷ [])
+    (rw none at m.faults) m.seen.kept m.seen.explained (other, tt)
+    (rw m.seen.same_profile at told.text) (text ∷ [])
     (explains, tt) (rw (append-nil text) put)
     c.tell_last.new.self.refusals.items all
     (rw all (omega (arith, length-append reasons.refusals.items (last ∷ []))))
