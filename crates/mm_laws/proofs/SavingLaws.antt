@@ -1,4 +1,5 @@
 -- Laws of files in which proofs are written anew.
+pub mod LineEnds
 pub mod ProofTexts
 pub mod SpanTexts
 pub mod AnyNewProof

@@ -2,7 +2,8 @@
 -- of proofs are those of the Metamath book, sections 4.3 and 4.4.3 and appendix B; what is kept is
 -- this project's own.
 use Rattle.std.specs.Prelude.{◌≡◌, ℕ, suc, ◌<◌, ◌≤◌, ◌==◌, ◌⊎◌, List, [], ◌∷◌, take, length, min}
-use Rattle.std.specs.Prelude.{slice_get, slice_range, Some, if◌then◌else◌}
+use Rattle.std.specs.Prelude.{slice_get, slice_range, Some, if◌then◌else◌, Bool, false}
+use Rattle.std.specs.List.{flat_map}
 use Rattle.mm_base.specs.Statement.{PlainStatement}
 use Rattle.mm_text.specs.Files.{PlainFile}
 use Rattle.mm_base.specs.MostBytes.{most_bytes}
@@ -42,12 +43,46 @@ spaces (byte ∷ bytes) = if byte == space then suc (spaces bytes) else 0
 abbrev pub usual_indent : ℕ
 usual_indent = 4
 
--- The indent of a proof with these bytes: where they begin with a line feed, the spaces right
--- behind it, but no more than a line may begin with.
-abbrev pub indent_of : List ℕ → ℕ
-indent_of [] = usual_indent
-indent_of (byte ∷ bytes) =
+-- a carriage return, which stands before each line feed in some files
+abbrev pub carriage_return : ℕ
+carriage_return = 13
+
+-- the indent of a proof whose bytes begin so, behind a carriage return if there is one
+abbrev pub indent_at : List ℕ → ℕ
+indent_at [] = usual_indent
+indent_at (byte ∷ bytes) =
     if byte == line_feed then min (spaces bytes) most_indent else usual_indent
+
+-- bytes without a carriage return that they begin with
+abbrev pub without_return : List ℕ → List ℕ
+without_return [] = []
+without_return (byte ∷ bytes) = if byte == carriage_return then bytes else byte ∷ bytes
+
+-- The indent of a proof with these bytes: where they begin with a line end, the spaces right behind
+-- it, but no more than a line may begin with. A line end is a line feed, behind a carriage return or
+-- alone.
+abbrev pub indent_of : List ℕ → ℕ
+indent_of bytes = indent_at (without_return bytes)
+
+-- the first line that ends in these bytes, behind one byte more, ends with a carriage return and a
+-- line feed
+abbrev pub ends_long : (before : ℕ) → List ℕ → Bool
+ends_long before [] = false
+ends_long before (byte ∷ bytes) =
+    if byte == line_feed then before == carriage_return else ends_long byte bytes
+
+-- the same of bytes alone
+abbrev pub has_long_ends : List ℕ → Bool
+has_long_ends bytes = ends_long 0 bytes
+
+-- a byte, with a carriage return before it if it is a line feed
+abbrev pub long_end : ℕ → List ℕ
+long_end byte = if byte == line_feed then carriage_return ∷ byte ∷ [] else byte ∷ []
+
+-- The text with the line ends of the old bytes: each of its line feeds has a carriage return before
+-- it, if the first line that ends in the old bytes has.
+abbrev pub with_ends_of : (old text : List ℕ) → List ℕ
+with_ends_of old text = if has_long_ends old then flat_map long_end text else text
 
 -- the new bytes are put in place of the old ones where they are fewer; else the old ones stay
 abbrev pub IsShorter : (old new put : List ℕ) → Type 0
@@ -56,13 +91,15 @@ IsShorter old new put =
 
 -- These bytes are put in place of the old ones of a proof of the trees: a line feed and the proof
 -- in this form; but in small form the proof with the indent that the old bytes have, and only where
--- that has fewer bytes than they.
+-- that has fewer bytes than they. The line ends are those of the old bytes.
 abbrev pub IsSpanText : Form → (before : List Sentence) → Sentence → Trees → (old put : List ℕ)
     → Type 0
 IsSpanText Small before s trees old put =
-    (text : List ℕ) × IsSmallBehind (indent_of old) before s trees text × IsShorter old text put
+    (text : List ℕ) × IsSmallBehind (indent_of old) before s trees text
+    × IsShorter old (with_ends_of old text) put
 IsSpanText form before s trees old put =
-    (text : List ℕ) × IsTextIn form before s trees text × (put ≡ line_feed ∷ text)
+    (text : List ℕ) × IsTextIn form before s trees text
+    × (put ≡ with_ends_of old (line_feed ∷ text))
 
 -- the bytes of a span
 abbrev pub within_span : List ℕ → (span : ℕ × ℕ) → List ℕ

@@ -2,6 +2,7 @@
 
 ghost use Rattle.std.specs.Prelude.{◌≡◌, ◌⊎◌, ◌<◌, ◌≤◌, List, ℕ, length, take, false, IfOk, IfErr};
 ghost use Rattle.std.specs.Prelude.{◌∷◌};
+ghost use Rattle.std.specs.List.{flat_map};
 ghost use Rattle.mm_code.specs.Layout.{texts};
 ghost use Rattle.mm_code.specs.SmallLayout.{most_indent};
 ghost use Rattle.mm_step.specs.Tree.{spelling};
@@ -14,6 +15,7 @@ ghost use Rattle.mm_rules.specs.declared.rule.AskRule.TheVariants.{L2};
 ghost use Rattle.mm_render.specs.Forms.{most_labels, IsNormalText, IsPackedText, IsSmallText};
 ghost use Rattle.mm_render.specs.Forms.{HasSmallProof, IsSmallBehind};
 ghost use Rattle.mm_render.specs.Saved.{IsSpanText, IsShorter, spaces, indent_of};
+ghost use Rattle.mm_render.specs.Saved.{without_return, has_long_ends, long_end, with_ends_of};
 ghost use Rattle.mm_verdict.specs.Mirror.Theorems.{AreProvedSteps};
 ghost use Rattle.mm_render.specs.Mirror.Shortening.{IsOwnProof};
 ghost use Rattle.mm_render.specs.Mirror.Rewriting.{IsSpanTextOf, IsTextFault};
@@ -197,15 +199,66 @@ fn spaces_before(bytes: &[u8]) -> usize
 // The indent of a proof that doesn't stand on lines of its own.
 const USUAL_INDENT: usize = 4;
 
-/// The indent of a proof that stands in a file as these bytes: where they begin with a line feed,
-/// the spaces right behind it, but no more than a line may begin with.
+/// Bytes without a carriage return that they begin with.
+fn without_return(bytes: &[u8]) -> &[u8]
+    ensures { result.now ≡ without_return bytes.now }
+{
+    if bytes.is_empty() || bytes[0] != b'\r' {
+        return bytes;
+    }
+    &bytes[1..]
+}
+
+/// The indent of a proof that stands in a file as these bytes: where they begin with a line end, the
+/// spaces right behind it, but no more than a line may begin with. A line end is a line feed, behind
+/// a carriage return or alone.
 fn indent_in(old: &[u8]) -> usize
     ensures { result ≡ indent_of old.now }
 {
-    if old.is_empty() || old[0] != b'\n' {
+    let first = without_return(old);
+    if first.is_empty() || first[0] != b'\n' {
         return USUAL_INDENT;
     }
-    spaces_before(&old[1..]).min(MOST_INDENT)
+    spaces_before(&first[1..]).min(MOST_INDENT)
+}
+
+/// Whether the first line that ends in these bytes ends with a carriage return and a line feed.
+fn has_long_ends(bytes: &[u8]) -> bool
+    ensures { result ≡ has_long_ends bytes.now }
+{
+    let mut before = 0;
+    for byte in bytes {
+        if *byte == b'\n' {
+            return before == b'\r';
+        }
+        before = *byte;
+    }
+    false
+}
+
+/// A text with a carriage return before each line feed.
+fn with_long_ends(alloc: Global, text: &[u8]) -> Result<Vec<u8>, AllocError>
+    ensures { IfOk result (λ put. put.items ≡ flat_map long_end text.now) }
+{
+    let mut put = Vec::with_capacity(alloc, text.len())?;
+    for byte in text {
+        if *byte == b'\n' {
+            put.push(b'\r')?;
+        }
+        put.push(*byte)?;
+    }
+    Ok(put)
+}
+
+/// A text with the line ends of the old bytes of a proof: a carriage return stands before each line
+/// feed, if one stands before the first of the old bytes.
+fn with_ends_of(alloc: Global, old: &[u8], text: Vec<u8>) -> Result<Vec<u8>, AllocError>
+    ensures { IfOk result (λ put. put.items ≡ with_ends_of old.now text.items) }
+{
+    if has_long_ends(old) {
+        return with_long_ends(alloc, &text);
+    }
+    Ok(text)
 }
 
 /// The text of the small proof of a theorem in the lines that files have, behind so many spaces.
@@ -249,6 +302,14 @@ fn behind_line_feed(alloc: Global, text: &[u8]) -> Result<Vec<u8>, AllocError>
     Ok(put)
 }
 
+/// A text behind a line feed, with the line ends of the old bytes of a proof.
+fn behind_line_end(alloc: Global, old: &[u8], text: &[u8]) -> Result<Vec<u8>, AllocError>
+    ensures { IfOk result (λ put. put.items ≡ with_ends_of old.now (10 ∷ text.now)) }
+{
+    let put = behind_line_feed(alloc, text)?;
+    with_ends_of(alloc, old, put)
+}
+
 /// What is put in place of the bytes of a theorem's proof in a form.
 pub fn span_text(
     alloc: Global,
@@ -268,15 +329,16 @@ pub fn span_text(
     match form {
         Form::Normal => {
             let text = normal_text(alloc, book, theorem)?;
-            Ok(behind_line_feed(alloc, &text)?)
+            Ok(behind_line_end(alloc, old, &text)?)
         }
         Form::Packed => {
             let text = packed_text(alloc, book, theorem)?;
-            Ok(behind_line_feed(alloc, &text)?)
+            Ok(behind_line_end(alloc, old, &text)?)
         }
         Form::Small => {
             let text = small_behind(alloc, book, theorem, indent_in(old))?;
-            Ok(shorter(alloc, old, text)?)
+            let ended = with_ends_of(alloc, old, text)?;
+            Ok(shorter(alloc, old, ended)?)
         }
     }
 }

@@ -274,7 +274,7 @@ pub(crate) const SAVED: [Asked; 12] = [
 ];
 
 /// What is kept beside the proofs.
-pub(crate) const KEPT: [Asked; 7] = [
+pub(crate) const KEPT: [Asked; 9] = [
     Asked {
         name: "incomplete proofs among complete ones are kept",
         command: File {
@@ -365,6 +365,44 @@ pub(crate) const KEPT: [Asked; 7] = [
             Text(b"      ( tpl )\n"),
             Text(b"      BAC\n"),
             Text(b"$.\r\n"),
+        ],
+        status: 0,
+    },
+    Asked {
+        name: "a proof in lines that end with a carriage return and a line feed is saved in such",
+        command: File {
+            form: Packed,
+            file: 0,
+        },
+        files: &[(
+            b"first.mm",
+            &[
+                Text(FIRST_HEAD),
+                Text(b"th $p term ( 0 + 0 ) $=\r\n  tze\r\n  tze\r\n  tpl\r\n  $.\r\n"),
+            ],
+        )],
+        reply: &[
+            Text(FIRST_HEAD),
+            Text(b"th $p term ( 0 + 0 ) $=\r\n      ( tze tpl )\r\n      AAB\r\n$.\r\n"),
+        ],
+        status: 0,
+    },
+    Asked {
+        name: "so it is in small form, behind its own indent",
+        command: File {
+            form: Small,
+            file: 0,
+        },
+        files: &[(
+            b"first.mm",
+            &[
+                Text(FIRST_HEAD),
+                Text(b"th $p term ( 0 + 0 ) $=\r\n  tze\r\n  tze\r\n  tpl\r\n  $.\r\n"),
+            ],
+        )],
+        reply: &[
+            Text(FIRST_HEAD),
+            Text(b"th $p term ( 0 + 0 ) $=\r\n  ( tze tpl ) AAB $.\r\n"),
         ],
         status: 0,
     },

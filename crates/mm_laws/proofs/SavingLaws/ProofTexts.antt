@@ -1,11 +1,11 @@
 -- A text in a form is a proof of its theorem; that of a packed proof tells its labels and its codes,
 -- so such texts tell whether two proofs are the same (`packed_texts_tell`).
 use Rattle.std.proofs.Common.{◌≡◌, ◌≢◌, ℕ, ◌+◌, ◌≤◌, ◌==◌, ◌||◌, ◌&&◌, List, [], ◌∷◌, ◌++◌, map}
-use Rattle.std.proofs.Common.{Bool, true, false, refl, sym, subst, ◌∙◌, arith, append_assoc}
+use Rattle.std.proofs.Common.{Bool, true, false, cond, refl, sym, subst, ◌∙◌, arith, append_assoc}
 use Rattle.std.proofs.Common.{append-nil, Contains, ◌↔◌, zero, suc, take, None, inl, inr, ap}
 use Rattle.std.specs.Prelude.{nat_le}
 use Rattle.std.specs.List.{AllByRecursion, AllZip, flat_map, list_all, list_any}
-use Rattle.std.proofs.lemmas.Bool.{leb-true, eqb-true, le-leb, ne_eqb, and_parts}
+use Rattle.std.proofs.lemmas.Bool.{leb-true, eqb-true, le-leb, ne_eqb, and_parts, cases_Bool}
 use Rattle.mm_base.specs.Token.{PlainToken, is_space, is_printable, is_label_byte, IsLabel}
 use Rattle.mm_base.specs.Token.{HoldsNoDollar, tokens_from}
 use Rattle.mm_text.specs.Replaced.{IsProofToken, IsProofText}
@@ -45,7 +45,9 @@ use Rattle.mm_code.proofs.SmallReadBack.{small_read_back}
 use Rattle.mm_code.proofs.SmallEnds.{small_begins, small_ends}
 use Rattle.mm_verdict.specs.declared.form.Form.{Form}
 use Rattle.mm_render.specs.Forms.{IsPackedText, IsSmallBehind}
-use Rattle.mm_render.specs.Saved.{IsSpanText, indent_of}
+use Rattle.mm_render.specs.Saved.{IsSpanText, indent_of, has_long_ends, with_ends_of}
+use Rattle.mm_laws.proofs.SavingLaws.LineEnds.{lengthened, lengthened_begins, lengthened_ends}
+use Rattle.mm_laws.proofs.SavingLaws.LineEnds.{lengthened_tokens}
 use Rattle.mm_verdict.proofs.Questions.AskedTheorems.{map-take}
 use Rattle.mm_code.proofs.LaidOutLines.{one_text_of_compressed}
 use Rattle.mm_code.proofs.OneSpelling.{one_text_only, one_reading_only}
@@ -355,6 +357,38 @@ small_reads indent before s root below put meant formed fit p =
           p.small p.coded joined apart Fits meant derived;
     }
 
+-- ---- with other line ends
+
+lengthened_reads : (before : List Sentence) (s : Sentence) (root : List ℕ) (below : Trees)
+    (put : List ℕ) → ReadsAsProof before s root below put
+    → ReadsAsProof before s root below (lengthened put)
+lengthened_reads before s root below put r =
+    let t = r.is_text in
+    let begins = lengthened_begins put
+    (record { first = t.first; more = t.more; is = t.begins; white = t.first_space }) in
+    let ends = lengthened_ends put
+    (record { inner = t.inner; last = t.last; is = t.ends; white = t.last_space }) in
+    let read = lengthened_tokens put ∙ r.read in
+    record {
+      tokens = r.tokens;
+      read = read;
+      fine = r.fine;
+      is_text = is_proof_text (lengthened put) r.tokens begins.first begins.more ends.inner
+          ends.last read r.fine begins.is begins.white ends.is ends.white;
+      strict = r.strict;
+      proves = r.proves;
+    }
+
+ends_read : (before : List Sentence) (s : Sentence) (root : List ℕ) (below : Trees)
+    (old put : List ℕ) → ReadsAsProof before s root below put
+    → ReadsAsProof before s root below (with_ends_of old put)
+ends_read before s root below old put r =
+    let So : Bool → Type 1 = λ c. ReadsAsProof before s root below (cond c (lengthened put) put) in
+    elim (cases_Bool (has_long_ends old)) [
+      | inl long ↦ subst So (sym long) (lengthened_reads before s root below put r)
+      | inr short ↦ subst So (sym short) r
+    ]
+
 -- ---- what is put in place of a proof is one, or the bytes that stood there
 
 -- small form keeps them
@@ -367,12 +401,15 @@ pub span_reads : {P : Type 0} (f : Form) (before : List Sentence) (s : Sentence)
     → IsSpanText f before s (tree root below none) old put
     → (ReadsAsProof before s root below put → P) → (KeepsBytes f old put → P) → P
 span_reads form.Normal before s root below old put meant formed fit (text, laid, is) new kept =
-    new (rw is (normal_reads before s root below text meant formed fit laid.1))
+    new (rw is (ends_read before s root below old (10 ∷ text)
+    (normal_reads before s root below text meant formed fit laid.1)))
 span_reads form.Packed before s root below old put meant formed fit (text, laid, is) new kept =
-    new (rw is (packed_reads before s root below text meant formed fit laid))
+    new (rw is (ends_read before s root below old (10 ∷ text)
+    (packed_reads before s root below text meant formed fit laid)))
 span_reads form.Small before s root below old put meant formed fit (text, laid, inl (less, is)) new
     kept =
-    new (rw is (small_reads (indent_of old) before s root below text meant formed fit laid))
+    new (rw is (ends_read before s root below old text
+    (small_reads (indent_of old) before s root below text meant formed fit laid)))
 span_reads form.Small before s root below old put meant formed fit (text, laid, inr (more, is)) new
     kept =
     kept (refl, is)

@@ -5,6 +5,7 @@ use Rattle.std.proofs.Common.{◌++◌, Bool, true, false, cond, length, min, re
 use Rattle.std.proofs.Common.{inl, inr, refl, sym, ap, subst, ◌∙◌, arith}
 use Rattle.std.proofs.Common.{length-append, append_assoc}
 use Rattle.std.proofs.Math.Nat.{min-eq_left}
+use Rattle.std.proofs.lemmas.Bool.{cases_Bool}
 use Rattle.std.proofs.Math.Seq.{take-append_seam, drop-append_seam}
 use Rattle.mm_base.specs.Statement.{PlainStatement}
 use Rattle.mm_text.specs.Replaced.{with_span, IsProofSpan}
@@ -22,7 +23,9 @@ use Rattle.mm_forms.proofs.FullSharing.OneSharedProof.{one_packed_holds}
 use Rattle.mm_forms.proofs.SmallProofs.OneSmallProof.{one_small_holds}
 use Rattle.mm_verdict.specs.declared.form.Form.{Form}
 use Rattle.mm_render.specs.Forms.{IsPackedText, IsSmallBehind}
-use Rattle.mm_render.specs.Saved.{IsSpanText, IsShorter, spaces, indent_of, within_span}
+use Rattle.mm_render.specs.Saved.{IsSpanText, IsShorter, spaces, indent_at, indent_of, within_span}
+use Rattle.mm_render.specs.Saved.{without_return, has_long_ends, with_ends_of}
+use Rattle.mm_laws.proofs.SavingLaws.LineEnds.{lengthened, lengthened_spaces, same_ends}
 use Rattle.mm_verdict.specs.declared.form.Form.TheVariants as form
 
 -- ==== the bytes of a span
@@ -111,21 +114,44 @@ indent_by : (b : Bool) (n : ℕ) → cond b (min n 39) 4 ≤ 39
 indent_by true n = omega arith
 indent_by false n = omega arith
 
+few_at : (bytes : List ℕ) → indent_at bytes ≤ 39
+few_at [] = omega arith
+few_at (byte ∷ bytes) = indent_by (byte == 10) (spaces bytes)
+
 pub indent_few : (old : List ℕ) → indent_of old ≤ 39
-indent_few [] = omega arith
-indent_few (byte ∷ bytes) = indent_by (byte == 10) (spaces bytes)
+indent_few old = few_at (without_return old)
 
 spaces_are : (count : ℕ) (more : List ℕ) → spaces (replicate count 32 ++ 40 ∷ more) ≡ count
 spaces_are zero more = refl
 spaces_are (suc count) more = ap suc (spaces_are count more)
 
--- in its lines, it has the indent again that it was given
-pub indent_again : (indent : ℕ) (labels : List (List ℕ)) (letters text : List ℕ) → indent ≤ 39
-    → SmallLaidOut indent labels letters text → indent_of text ≡ indent
-indent_again indent labels letters text few laid =
+-- in its lines, it has the indent again that it was given, and the line ends
+pub indent_again : (indent : ℕ) (labels : List (List ℕ)) (letters text old : List ℕ) → indent ≤ 39
+    → SmallLaidOut indent labels letters text → indent_of (with_ends_of old text) ≡ indent
+indent_again indent labels letters text old few laid =
     let begins = small_begins indent labels letters text laid in
-    ap indent_of begins.is ∙ ap (λ (n : ℕ). min n 39) (spaces_are indent begins.more)
-    ∙ min-eq_left few
+    let So : Bool → ℕ = λ c. indent_of (cond c (lengthened text) text) in
+    elim (cases_Bool (has_long_ends old)) [
+      | inl long ↦
+          ap So long ∙ ap (λ (l : List ℕ). indent_of (lengthened l)) begins.is
+          ∙ ap (λ (n : ℕ). min n 39) (lengthened_spaces indent begins.more) ∙ min-eq_left few
+      | inr short ↦
+          ap So short ∙ ap indent_of begins.is
+          ∙ ap (λ (n : ℕ). min n 39) (spaces_are indent begins.more) ∙ min-eq_left few
+    ]
+
+pub ends_again : (indent : ℕ) (labels : List (List ℕ)) (letters text old : List ℕ)
+    → SmallLaidOut indent labels letters text
+    → has_long_ends (with_ends_of old text) ≡ has_long_ends old
+ends_again indent labels letters text old laid =
+    let begins = small_begins indent labels letters text laid in
+    ap (λ (l : List ℕ). has_long_ends (with_ends_of old l)) begins.is
+    ∙ same_ends old (replicate indent 32 ++ 40 ∷ begins.more)
+
+-- with the same line ends, it is the same text
+ends_are : (put old text : List ℕ) → has_long_ends put ≡ has_long_ends old
+    → with_ends_of put text ≡ with_ends_of old text
+ends_are put old text same = ap (λ (c : Bool). cond c (lengthened text) text) same
 
 -- ==== one text is put
 
@@ -160,26 +186,43 @@ pub span_text_once : (f : Form) (prefix : List Sentence) (s : Sentence) (root : 
     → IsSpanText f prefix s (tree root below none) old a
     → IsSpanText f prefix s (tree root below none) old b → a ≡ b
 span_text_once form.Normal prefix s root below old a b meant (x, p, is) (y, q, other) =
-    is ∙ ap (λ (l : List ℕ). 10 ∷ l)
+    is ∙ ap (λ (l : List ℕ). with_ends_of old (10 ∷ l))
     (one_text_of_tokens (spelling (tree root below none)) x y p.1 q.1) ∙ sym other
 span_text_once form.Packed prefix s root below old a b meant (x, p, is) (y, q, other) =
-    is ∙ ap (λ (l : List ℕ). 10 ∷ l) (packed_once prefix s root below x y meant p q) ∙ sym other
+    is ∙ ap (λ (l : List ℕ). with_ends_of old (10 ∷ l))
+    (packed_once prefix s root below x y meant p q) ∙ sym other
 span_text_once form.Small prefix s root below old a b meant (x, p, is) (y, q, other) =
     let same : x ≡ y = small_once (indent_of old) prefix s root below x y meant p q in
-    shorter_once old y a b (rw same at is) other
+    shorter_once old (with_ends_of old y) a b
+    (subst (λ (l : List ℕ). IsShorter old (with_ends_of old l) a) same is) other
 
 -- ==== and it is put again in place of itself
 
+-- behind a line feed
+put_again_behind : (old put text : List ℕ) → put ≡ with_ends_of old (10 ∷ text)
+    → put ≡ with_ends_of put (10 ∷ text)
+put_again_behind old put text is =
+    is ∙ sym (ends_are put old (10 ∷ text) (ap has_long_ends is ∙ same_ends old text))
+
 pub span_text_again : (f : Form) (prefix : List Sentence) (s : Sentence) (trees : Trees)
     (old put : List ℕ) → IsSpanText f prefix s trees old put → IsSpanText f prefix s trees put put
-span_text_again form.Normal prefix s trees old put h = h
-span_text_again form.Packed prefix s trees old put h = h
+span_text_again form.Normal prefix s trees old put (text, laid, is) =
+    (text, laid, put_again_behind old put text is)
+span_text_again form.Packed prefix s trees old put (text, laid, is) =
+    (text, laid, put_again_behind old put text is)
 span_text_again form.Small prefix s trees old put (text, p, inl (less, is)) =
     let same : indent_of put ≡ indent_of old = ap indent_of is
-    ∙ indent_again (indent_of old) p.listed p.letters text (indent_few old) p.laid in
-    (text, rw same p, inr (omega (arith, ap length is), refl))
+    ∙ indent_again (indent_of old) p.listed p.letters text old (indent_few old) p.laid in
+    let long : has_long_ends put ≡ has_long_ends old = ap has_long_ends is
+    ∙ ends_again (indent_of old) p.listed p.letters text old p.laid in
+    let whole : with_ends_of put text ≡ put = ends_are put old text long ∙ sym is in (
+      text,
+      subst (λ (n : ℕ). IsSmallBehind n prefix s trees text) (sym same) p,
+      inr (omega (arith, ap length whole), refl),
+    )
 span_text_again form.Small prefix s trees old put (text, p, inr (more, is)) =
-    (text, rw is p, inr (omega (arith, more, ap length is), refl))
+    subst (λ (l : List ℕ). IsSpanText form.Small prefix s trees l l) (sym is)
+    (text, p, inr (more, refl))
 
 -- ==== in small form no more bytes are put than there were
 
