@@ -67,7 +67,7 @@ pub(crate) struct Search<'s, 't, 'b, 'a> {
     pub(crate) library: &'s Library,
     pub(crate) theorem: &'s Theorem<'t, 'b, 'a>,
     /// What the theorem rests on.
-    pub(crate) grounds: &'s [u64],
+    pub(crate) grounds: &'s [u32],
     pub(crate) goals: &'s Goals,
     /// Whether one `$e` may be missing.
     pub(crate) may_lack: bool,

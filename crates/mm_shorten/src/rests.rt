@@ -1,9 +1,10 @@
 //! What assertions rest on, as sets of bits.
 
+use crate::trie::next_number;
 use mm_frame::LabelId;
 use std::alloc::{AllocError, Global};
 
-const WORD_BITS: usize = 64;
+const WORD_BITS: usize = 32;
 
 /// What an assertion rests on.
 #[derive(Clone, Copy)]
@@ -14,13 +15,30 @@ pub enum Rests<'u> {
     Uses(&'u [LabelId]),
 }
 
+/// Some members of a set: those whose numbers are bits of one word.
+#[derive(Clone, Copy)]
+pub(crate) struct Word {
+    /// Which word it is.
+    index: u32,
+    bits: u32,
+}
+
+// Where the words of a label stand.
+#[derive(Clone, Copy)]
+struct Range {
+    start: usize,
+    end: usize,
+}
+
 /// For each label the set of what it rests on: of the assertions that rest on themselves, by their
-/// numbers.
+/// numbers. Words without members are left out.
 #[derive(Drop)]
 pub(crate) struct Grounds {
     alloc: Global,
+    /// How many assertions rest on themselves.
     count: usize,
-    sets: Vec<Vec<u64>>,
+    ranges: Vec<Range>,
+    words: Vec<Word>,
 }
 
 impl Grounds {
@@ -29,70 +47,94 @@ impl Grounds {
         Grounds {
             alloc,
             count: 0,
-            sets: Vec::new(alloc),
+            ranges: Vec::new(alloc),
+            words: Vec::new(alloc),
         }
     }
 
     /// The set of a label; the empty one where none was entered.
-    pub(crate) fn set(&self, label: LabelId) -> &[u64] {
-        match self.sets.get(label.0 as usize) {
-            Some(set) => set,
-            None => &[],
+    pub(crate) fn set(&self, label: LabelId) -> &[Word] {
+        let Some(range) = self.ranges.get(label.0 as usize).copied() else {
+            return &[];
+        };
+        if range.start <= range.end && range.end <= self.words.len() {
+            &self.words[range.start..range.end]
+        } else {
+            &[]
         }
     }
 
-    /// What a proof rests on that uses these assertions.
-    pub(crate) fn union(&self, uses: &[LabelId]) -> Result<Vec<u64>, AllocError> {
-        let mut all = Vec::new(self.alloc);
+    /// What a proof rests on that uses these assertions, with all words.
+    pub(crate) fn union(&self, uses: &[LabelId]) -> Result<Vec<u32>, AllocError> {
+        let alloc = self.alloc;
+        let mut all = vec![in alloc; 0u32; self.count / WORD_BITS + 1]?;
         for label in uses {
-            join(&mut all, self.set(*label))?;
+            join(&mut all, self.set(*label));
         }
         Ok(all)
     }
 
     /// Enters what an assertion rests on.
     pub(crate) fn enter(&mut self, label: LabelId, rests: Rests) -> Result<(), AllocError> {
-        let set = match rests {
-            Rests::Itself => self.next_alone()?,
-            Rests::Uses(uses) => self.union(uses)?,
-        };
-        for _ in self.sets.len()..=label.0 as usize {
-            self.sets.push(Vec::new(self.alloc))?;
+        let start = self.words.len();
+        match rests {
+            Rests::Itself => self.add_next()?,
+            Rests::Uses(uses) => self.add_union(uses)?,
         }
-        if let Some(place) = self.sets.get_mut(label.0 as usize) {
-            *place = set;
+        let end = self.words.len();
+        self.put(label, Range { start, end })
+    }
+
+    // Adds the word of the next number alone.
+    fn add_next(&mut self) -> Result<(), AllocError> {
+        self.words.push(Word {
+            index: next_number(self.count / WORD_BITS),
+            bits: 1 << (self.count % WORD_BITS) as u32,
+        })?;
+        self.count = self.count.saturating_add(1);
+        Ok(())
+    }
+
+    // Adds the words of what a proof rests on that uses these assertions.
+    fn add_union(&mut self, uses: &[LabelId]) -> Result<(), AllocError> {
+        let all = self.union(uses)?;
+        for (index, bits) in all.iter().enumerate() {
+            if *bits != 0 {
+                self.words.push(Word {
+                    index: next_number(index),
+                    bits: *bits,
+                })?;
+            }
         }
         Ok(())
     }
 
-    // The set of the next number alone.
-    fn next_alone(&mut self) -> Result<Vec<u64>, AllocError> {
-        let mut set = Vec::new(self.alloc);
-        for _ in 0..self.count / WORD_BITS {
-            set.push(0)?;
+    // Puts where the words of a label stand.
+    fn put(&mut self, label: LabelId, range: Range) -> Result<(), AllocError> {
+        for _ in self.ranges.len()..=label.0 as usize {
+            self.ranges.push(Range { start: 0, end: 0 })?;
         }
-        set.push(1 << (self.count % WORD_BITS) as u32)?;
-        self.count = self.count.saturating_add(1);
-        Ok(set)
+        if let Some(place) = self.ranges.get_mut(label.0 as usize) {
+            *place = range;
+        }
+        Ok(())
     }
 }
 
 // Puts the members of another set into the set.
-fn join(set: &mut Vec<u64>, others: &[u64]) -> Result<(), AllocError> {
-    for _ in set.len()..others.len() {
-        set.push(0)?;
+fn join(set: &mut [u32], others: &[Word]) {
+    for other in others {
+        if let Some(bits) = set.get_mut(other.index as usize) {
+            *bits |= other.bits;
+        }
     }
-    for (word, other) in set.iter_mut().zip(others) {
-        *word |= *other;
-    }
-    Ok(())
 }
 
-/// Whether each member of the one set is in the other one.
-pub(crate) fn is_within(set: &[u64], others: &[u64]) -> bool {
-    for (at, word) in set.iter().enumerate() {
-        let other = others.get(at).copied().unwrap_or(0);
-        if word & other != *word {
+/// Whether each member of the one set is in the other one, which has all words.
+pub(crate) fn is_within(set: &[Word], others: &[u32]) -> bool {
+    for word in set {
+        let bits = others.get(word.index as usize).copied().unwrap_or(0);
+        if word.bits & bits != word.bits {
             return false;
         }
     }

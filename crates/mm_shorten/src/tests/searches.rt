@@ -211,8 +211,11 @@ fn sets_of_axioms_are_compared(rt: HostRuntime) -> Result<(), Fail> {
         grounds.enter(LabelId(label), Rests::Itself)?;
     }
     grounds.enter(LabelId(70), Rests::Uses(&[LabelId(3), LabelId(69)]))?;
-    assert!(rt; is_within(grounds.set(LabelId(69)), grounds.set(LabelId(70))));
-    assert!(rt; !is_within(grounds.set(LabelId(70)), grounds.set(LabelId(69))));
-    assert!(rt; !is_within(grounds.set(LabelId(4)), grounds.set(LabelId(70))));
+    let both = grounds.union(&[LabelId(70)])?;
+    let last = grounds.union(&[LabelId(69)])?;
+    assert!(rt; is_within(grounds.set(LabelId(69)), &both));
+    assert!(rt; is_within(grounds.set(LabelId(70)), &both));
+    assert!(rt; !is_within(grounds.set(LabelId(70)), &last));
+    assert!(rt; !is_within(grounds.set(LabelId(4)), &both));
     Ok(())
 }
