@@ -1,5 +1,7 @@
 //! Expressions by number.
 
+ghost use Rattle.std.specs.Prelude.{◌≡◌, ◌+◌, length, min, OnOk};
+
 use indexmap::IndexMap;
 use mm_base::Seed;
 use mm_frame::Sym;
@@ -13,6 +15,8 @@ pub struct Expressions {
     alloc: Global,
     seed: Seed,
     lists: Vec<Vec<Sym>>,
+    /// How many symbols they have in all.
+    symbols: usize,
     /// For each hash the number of the last expression that has it.
     last: IndexMap<u64, u32, Seed>,
     /// For each expression the number of the one before it that has the same hash.
@@ -26,6 +30,7 @@ impl Expressions {
             alloc,
             seed,
             lists: Vec::new(alloc),
+            symbols: 0,
             last: IndexMap::with_hasher(alloc, seed),
             earlier: Vec::new(alloc),
         }
@@ -39,6 +44,13 @@ impl Expressions {
     /// Whether there is none.
     pub fn is_empty(&self) -> bool {
         self.lists.is_empty()
+    }
+
+    /// How many symbols they have in all.
+    pub fn symbols(&self) -> usize
+        ensures { result ≡ self.now.symbols }
+    {
+        self.symbols
     }
 
     /// The symbols of the expression with a number; none where no expression has it.
@@ -67,8 +79,18 @@ impl Expressions {
         let number = u32::try_from(self.lists.len()).unwrap_or(u32::MAX);
         let earlier = self.last.insert(hash, number)?;
         self.earlier.push(earlier)?;
-        self.lists.push(Vec::from_slice(self.alloc, symbols)?)?;
+        self.put(symbols)?;
         Ok(number)
+    }
+
+    // Puts an expression behind the others, and counts its symbols.
+    fn put(&mut self, symbols: &[Sym]) -> Result<(), AllocError>
+        ensures { OnOk result (self.new.symbols
+            ≡ min usize.MAX (self.old.symbols + length symbols.now)) }
+    {
+        self.lists.push(Vec::from_slice(self.alloc, symbols)?)?;
+        self.symbols = self.symbols.saturating_add(symbols.len());
+        Ok(())
     }
 
     // The hash of an expression.

@@ -1,6 +1,7 @@
 //! The graph of a proof: each conclusion once, and the ways to derive it.
 
 use crate::expressions::Expressions;
+use crate::room::has_room;
 use mm_base::Seed;
 use mm_frame::{Book, LabelId, LabelKind, Sym};
 use mm_listing::{Name, UsedSteps};
@@ -37,6 +38,8 @@ pub struct Edge {
 #[derive(Drop)]
 pub struct Graph {
     alloc: Global,
+    /// How many edges there are, and children of edges.
+    held: usize,
     /// The conclusions.
     pub expressions: Expressions,
     /// For each node its edges.
@@ -59,6 +62,7 @@ impl Graph {
     pub fn new(alloc: Global, seed: Seed) -> Graph {
         Graph {
             alloc,
+            held: 0,
             expressions: Expressions::new(alloc, seed),
             edges: Vec::new(alloc),
             hypotheses: Vec::new(alloc),
@@ -100,13 +104,14 @@ impl Graph {
     }
 
     /// Puts an edge behind those of the node, and answers whether it did: not where the node has
-    /// such an edge or `MOST_EDGES`, is a hypothesis or isn't there.
+    /// such an edge or `MOST_EDGES`, is a hypothesis or isn't there, or all edges and their children
+    /// are `MOST_HELD`.
     ///
     /// # Errors
     ///
     /// Where a growth was refused.
     pub fn add(&mut self, node: u32, edge: Edge) -> Result<bool, AllocError> {
-        if self.hypothesis_of(node).is_some() {
+        if self.hypothesis_of(node).is_some() || !has_room(self.held) {
             return Ok(false);
         }
         let Some(edges) = self.edges.get_mut(node as usize) else {
@@ -115,6 +120,10 @@ impl Graph {
         if edges.len() >= MOST_EDGES || edges.iter().any(|other| are_alike(other, &edge)) {
             return Ok(false);
         }
+        self.held = self
+            .held
+            .saturating_add(edge.children.len())
+            .saturating_add(1);
         edges.push(edge)?;
         Ok(true)
     }

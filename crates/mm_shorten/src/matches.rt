@@ -1,9 +1,10 @@
 //! The conclusions that match patterns, found by what their variables are bound to.
 
-ghost use Rattle.std.specs.Prelude.{◌≤◌};
+ghost use Rattle.std.specs.Prelude.{◌≤◌, length, OnOk};
 
 use crate::budget::Budget;
 use crate::patterns::Placed;
+use crate::room::{MOST_HELD, has_room};
 use crate::trie::next_number;
 use indexmap::IndexMap;
 use mm_base::Seed;
@@ -49,22 +50,25 @@ pub(crate) struct Matches {
     rows: Vec<Row>,
     bindings: Vec<u32>,
     lists: Vec<Vec<u32>>,
+    /// How many indices the lists have in all.
+    listed: usize,
     /// By pattern, the number of its list.
-    by_pattern: Vec<u32>,
+    by_pattern: IndexMap<u32, u32, Seed>,
     by_key: IndexMap<Key, u32, Seed>,
     /// The variables of patterns whose lists were made.
     made: IndexMap<Mask, (), Seed>,
 }
 
 impl Matches {
-    /// No rows, of so many patterns; the hashes of what lists are found by begin from the seed.
-    pub(crate) fn new(alloc: Global, seed: Seed, patterns: u32) -> Result<Matches, AllocError> {
+    /// No rows; the hashes of what lists are found by begin from the seed.
+    pub(crate) fn new(alloc: Global, seed: Seed) -> Result<Matches, AllocError> {
         let mut matches = Matches {
             alloc,
             rows: Vec::new(alloc),
             bindings: Vec::new(alloc),
             lists: Vec::new(alloc),
-            by_pattern: vec![in alloc; NO_ROWS; patterns as usize]?,
+            listed: 0,
+            by_pattern: IndexMap::with_hasher(alloc, seed),
             by_key: IndexMap::with_hasher(alloc, seed),
             made: IndexMap::with_hasher(alloc, seed),
         };
@@ -91,14 +95,20 @@ impl Matches {
         }
     }
 
-    /// Adds a row, which is in no list.
+    /// Adds a row, which is in no list, where there is room for it.
     pub(crate) fn add(
         &mut self,
         pattern: u32,
         conclusion: u32,
         bindings: &[u32],
-    ) -> Result<(), AllocError> {
+    ) -> Result<(), AllocError>
+        ensures { OnOk result (length self.old.rows.items ≤ MOST_HELD
+            → length self.new.rows.items ≤ MOST_HELD) }
+    {
         let start = self.bindings.len();
+        if !has_room(start) || !has_room(self.rows.len()) {
+            return Ok(());
+        }
         self.bindings.extend_from_slice(bindings)?;
         self.rows.push(Row {
             pattern,
@@ -159,10 +169,7 @@ impl Matches {
 
     // The number of the list of a pattern.
     fn list_of(&self, pattern: u32) -> u32 {
-        self.by_pattern
-            .get(pattern as usize)
-            .copied()
-            .unwrap_or(NO_ROWS)
+        self.by_pattern.get(&pattern).copied().unwrap_or(NO_ROWS)
     }
 
     // The number of the list of a pattern, which is made where there is none.
@@ -172,9 +179,7 @@ impl Matches {
             return Ok(list);
         }
         let list = self.add_list()?;
-        if let Some(place) = self.by_pattern.get_mut(pattern as usize) {
-            *place = list;
-        }
+        self.by_pattern.insert(pattern, list)?;
         Ok(list)
     }
 
@@ -195,12 +200,16 @@ impl Matches {
         Ok(list)
     }
 
-    // Puts the index of a row into a list.
+    // Puts the index of a row into a list, where there is room for it.
     fn put(&mut self, list: u32, row: usize) -> Result<(), AllocError> {
+        if !has_room(self.listed) {
+            return Ok(());
+        }
         let row = next_number(row);
         if let Some(list) = self.lists.get_mut(list as usize) {
             list.push(row)?;
         }
+        self.listed = self.listed.saturating_add(1);
         Ok(())
     }
 
@@ -210,7 +219,7 @@ impl Matches {
     {
         self.made.insert(mask, ())?;
         for at in 0..self.list(all).len() {
-            if !budget.take(1) {
+            if !budget.take(1) || !has_room(self.listed) {
                 break;
             }
             let index = self.list(all).get(at).copied().unwrap_or(0) as usize;

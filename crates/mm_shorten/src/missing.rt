@@ -7,6 +7,7 @@ use crate::budget::Budget;
 use crate::goals::Goal;
 use crate::graph::{Edge, Graph, Origin};
 use crate::join::children_of;
+use crate::room::has_room;
 use indexmap::IndexMap;
 use mm_base::Seed;
 use mm_frame::{Piece, Sym};
@@ -20,6 +21,9 @@ pub const MOST_OPEN: usize = 400_000;
 
 /// No more missing hypotheses are sought in a proof.
 pub const MOST_WANTED: usize = 2_000;
+
+/// No missing hypothesis is sought with which a graph would have more symbols.
+pub const MOST_WANTED_SYMBOLS: usize = 1 << 24;
 
 /// A step that a hypothesis is missing for.
 #[derive(Drop)]
@@ -40,6 +44,8 @@ pub(crate) struct Open {
 #[derive(Drop)]
 pub(crate) struct Opened {
     steps: Vec<Open>,
+    /// How many hypotheses they have in all.
+    hypotheses: usize,
     /// For each template how many there are of it.
     counts: IndexMap<u32, u32, Seed>,
 }
@@ -76,19 +82,21 @@ impl Opened {
     pub(crate) fn new(alloc: Global, seed: Seed) -> Opened {
         Opened {
             steps: Vec::new(alloc),
+            hypotheses: 0,
             counts: IndexMap::with_hasher(alloc, seed),
         }
     }
 
     /// Whether there may be one more by a template.
     pub(crate) fn may_open(&self, number: u32) -> bool {
-        self.count(number) < OPEN_EACH && self.steps.len() < MOST_OPEN
+        self.count(number) < OPEN_EACH && self.steps.len() < MOST_OPEN && has_room(self.hypotheses)
     }
 
     /// Adds a step.
     pub(crate) fn add(&mut self, open: Open) -> Result<(), AllocError> {
         let count = self.count(open.number).saturating_add(1);
         self.counts.insert(open.number, count)?;
+        self.hypotheses = self.hypotheses.saturating_add(open.nodes.len());
         self.steps.push(open)?;
         Ok(())
     }
@@ -184,6 +192,10 @@ impl Wanted {
         let Some(essential) = template.essentials.get(step.essential) else {
             return Ok(());
         };
+        let length = instance_length(graph, &essential.pieces, &step.nodes);
+        if graph.expressions.symbols().saturating_add(length) > MOST_WANTED_SYMBOLS {
+            return Ok(());
+        }
         let expression = instance(alloc, graph, &essential.pieces, &step.nodes, budget)?;
         let before = graph.expressions.len();
         let missing = graph.node(&expression)?;
@@ -221,6 +233,25 @@ impl Wanted {
     }
 }
 
+// The expression of the node that meets the hypothesis at a place.
+fn value_at<'g>(graph: &'g Graph, nodes: &[Option<u32>], place: u32) -> &'g [Sym] {
+    let node = nodes.get(place as usize).copied().flatten();
+    graph.expressions.get(node.unwrap_or(u32::MAX))
+}
+
+// How many symbols the pieces say where these nodes meet the hypotheses.
+fn instance_length(graph: &Graph, pieces: &[Piece], nodes: &[Option<u32>]) -> usize {
+    let mut length = 0usize;
+    for piece in pieces {
+        let symbols = match *piece {
+            Piece::Symbol(_) => 1,
+            Piece::Value(place) => value_at(graph, nodes, place).len().saturating_sub(1),
+        };
+        length = length.saturating_add(symbols);
+    }
+    length
+}
+
 // What the pieces say where these nodes meet the hypotheses.
 fn instance(
     alloc: Global,
@@ -236,12 +267,7 @@ fn instance(
         match *piece {
             Piece::Symbol(symbol) => expression.push(symbol)?,
             Piece::Value(place) => {
-                let node = nodes
-                    .get(place as usize)
-                    .copied()
-                    .flatten()
-                    .unwrap_or(u32::MAX);
-                let value = graph.expressions.get(node);
+                let value = value_at(graph, nodes, place);
                 budget.take(value.len());
                 if let [_, symbols @ ..] = value {
                     expression.extend_from_slice(symbols)?;

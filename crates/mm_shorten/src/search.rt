@@ -80,7 +80,7 @@ impl Library {
         ensures { budget.new ≤ budget.old }
     {
         let syntax = Syntax::of_graph(self.alloc, self.seed, graph, code, budget)?;
-        let matches = Matches::new(self.alloc, self.seed, self.patterns.count())?;
+        let matches = Matches::new(self.alloc, self.seed)?;
         let mut known = Known { syntax, matches };
         match self.list_known(graph, code, &mut known, budget) {
             Ok(()) => Ok(known),

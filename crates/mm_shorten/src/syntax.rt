@@ -4,6 +4,7 @@ ghost use Rattle.std.specs.Prelude.{◌≤◌};
 
 use crate::budget::Budget;
 use crate::graph::Graph;
+use crate::room::has_room;
 use crate::trie::{ROOT, Trie, next_number};
 use mm_base::Seed;
 use mm_frame::Sym;
@@ -115,8 +116,8 @@ impl Syntax {
         Ok(number)
     }
 
-    // Enters a conclusion, unless it has the type code of what is proved, or nothing is left of the
-    // budget.
+    // Enters a conclusion, unless it has the type code of what is proved, nothing is left of the
+    // budget, or there is no room for more.
     fn enter(
         &mut self,
         expression: &[Sym],
@@ -130,6 +131,9 @@ impl Syntax {
             return Ok(());
         };
         if *code == proved || symbols.is_empty() || budget.is_used_up() {
+            return Ok(());
+        }
+        if !has_room(self.ends.len().saturating_add(symbols.len())) {
             return Ok(());
         }
         budget.take(symbols.len());
@@ -168,7 +172,7 @@ impl Syntax {
     {
         let mut node = ROOT;
         for place in start..expression.len() {
-            if !budget.take(1) {
+            if !budget.take(1) || !has_room(spans.len()) {
                 return Ok(());
             }
             match self.trie.follow(node, expression[place]) {

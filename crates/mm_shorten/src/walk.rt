@@ -5,6 +5,7 @@ ghost use Rattle.std.specs.Prelude.{◌≤◌};
 use crate::budget::Budget;
 use crate::matches::Matches;
 use crate::patterns::Patterns;
+use crate::room::has_room;
 use crate::syntax::{Span, Spans};
 use crate::trie::ROOT;
 use mm_frame::Sym;
@@ -77,8 +78,12 @@ impl Walk {
         Ok(())
     }
 
-    // Goes on by a variable that syntax replaces, where it is new or was replaced by the same.
+    // Goes on by a variable that syntax replaces, where it is new or was replaced by the same, and
+    // there is room for one more place.
     fn go_by_variable(&mut self, to: u32, number: u32, span: Span) -> Result<(), AllocError> {
+        if !has_room(self.places.len()) {
+            return Ok(());
+        }
         let bound = self.bindings.len();
         let binding = match self.bindings.get(number as usize) {
             Some(before) if *before == span.conclusion => None,

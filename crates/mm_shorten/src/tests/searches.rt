@@ -63,7 +63,7 @@ fn graph_of(alloc: Global, conclusions: &[&[Sym]]) -> Result<Graph, AllocError> 
 fn rows_of(alloc: Global, patterns: &Patterns, graph: &Graph) -> Result<Matches, AllocError> {
     let mut budget = Budget::new(1_000);
     let syntax = Syntax::of_graph(alloc, Seed::known(), graph, PROVABLE, &mut budget)?;
-    let mut matches = Matches::new(alloc, Seed::known(), patterns.count())?;
+    let mut matches = Matches::new(alloc, Seed::known())?;
     let count = graph.expressions.len().min(100) as u32;
     for number in 0..count {
         let expression = graph.expressions.get(number);
