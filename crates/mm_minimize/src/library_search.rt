@@ -12,7 +12,7 @@ use mm_frame::{Book, LabelId, LabelKind};
 use mm_listing::{UsedSteps, uses_of};
 use mm_proof::Steps;
 use mm_rules::Kept;
-use mm_shorten::{Entry, Library, Reach, Rests, Size, Theorem};
+use mm_shorten::{Entry, Library, Reach, Rests, Size, Theorem, has_few_symbols};
 use mm_step::ProofFault;
 use std::alloc::{AllocError, Global};
 
@@ -146,6 +146,9 @@ impl<'c> Search for LibrarySearch<'c> {
         size: OwnSize,
     ) -> Result<Option<Vec<u8>>, AllocError> {
         self.pass(book, id)?;
+        if !has_few_symbols(alloc, book, steps)? {
+            return Ok(None);
+        }
         let Some(used) = used_by(alloc, book, id, steps)? else {
             return Ok(None);
         };
