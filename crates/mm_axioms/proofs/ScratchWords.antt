@@ -518,8 +518,10 @@ index_put ws ids x number rising at less c =
     let one = bit_one x c in (
       (λ t. elim (put.0 t)
           [ inl old ↦ inl old | inr bit ↦ inr (ap (λ (k : ℕ). slice_get ids k) (one.0 bit) ∙ at) ]),
-      λ t. put.1 (elim t
-          [ inl old ↦ inl old | inr there ↦ inr (one.1 (rising_once ids c x number rising there at)) ]),
+      λ t. put.1 (elim t [
+        | inl old ↦ inl old
+        | inr there ↦ inr (one.1 (rising_once ids c x number rising there at))
+      ]),
     )
 
 -- all words of a row stand within, since their numbers do

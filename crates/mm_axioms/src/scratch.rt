@@ -1,7 +1,8 @@
 //! A set that is filled and emptied again for each theorem.
 
 ghost use Rattle.std.specs.Prelude.{◌≡◌, ◌↔◌, ◌⊎◌, ◌<◌, ◌+◌, ◌/◌, ◌++◌, ◌∷◌, [], ℕ, length};
-ghost use Rattle.std.specs.Prelude.{true, IfOk, OnOk, Contains, set, slice_index_or, replicate, bit_or};
+ghost use Rattle.std.specs.Prelude.{true, IfOk, OnOk, Contains, set, slice_index_or, bit_or};
+ghost use Rattle.std.specs.Prelude.{replicate};
 ghost use Rattle.mm_axioms.specs.Mirror.Bits.{IsRow, has_bit as has_bit_at, has_number, words_from};
 
 use crate::bits::{SetWord, WORD_BITS};

@@ -1,7 +1,7 @@
 //! Who uses an assertion, and who rests on it.
 
-ghost use Rattle.std.specs.Prelude.{◌≡◌, ◌↔◌, ◌⊎◌, ◌<◌, ◌+◌, ℕ, map, length, Contains, IfOk, IsTrue};
-ghost use Rattle.std.specs.Prelude.{IfSome, Some, slice_get};
+ghost use Rattle.std.specs.Prelude.{◌≡◌, ◌↔◌, ◌⊎◌, ◌<◌, ◌+◌, ℕ, map, length, Contains};
+ghost use Rattle.std.specs.Prelude.{IfOk, IsTrue, IfSome, Some, slice_get};
 ghost use Rattle.mm_rules.specs.Conclusion.{ProofUses, numbers_of};
 ghost use Rattle.mm_rules.specs.Rests.{AreRising, AreInOrder, RestsOn};
 ghost use Rattle.mm_rules.specs.Mirror.Marks.{IsMarked, UsedIn, AreBackward};

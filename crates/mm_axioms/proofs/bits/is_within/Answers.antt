@@ -39,9 +39,8 @@ loop-other-preserved c =
                 u.if-is_part_of.false in cc))
             | else-found-row-via-else-found-row u ↦
                 found_no_more row others found k v c.loop-other.invariant there
-                (λ x at part. absurd
-                (let less = slice_get_within row found x at in let more = u.if-found-row.false in omega
-                arith))
+                (λ x at part. absurd (let less = slice_get_within row found x at in
+                let more = u.if-found-row.false in omega arith))
           ])
     ]
 

@@ -9,5 +9,6 @@ returns c = λ holds statements uses tables.
     let deref = c.deref.ensures.value in
     founded statements (map (λ (l : LabelId). l.0) c.args.incomplete.now) uses c.args.tables.now
     c.args.theorem.0 c.args.used.0 tables
-    (rw deref at ((c.rests_no_further.ensures uses (rw deref tables.axiom_rows)).0 c.if-not-rests_no_further.false))
+    (rw deref at ((c.rests_no_further.ensures uses (rw deref tables.axiom_rows)).0
+    c.if-not-rests_no_further.false))
     ((c.rests_no_further-2.ensures uses tables.unproved_rows).0 holds)

@@ -43,9 +43,8 @@ loop-at-preserved c =
           let inside = number_in_words set k in
           let reached = c.fill.ensures.reached k in (
             (λ t. reaches_as c.loop-at.rows ids used u.used k same (reached.0 (inside.0 t))),
-            λ t. inside.1
-                (reached.1 (reaches_as c.loop-at.rows ids u.used used k (λ n. ((same n).1, (same n).0))
-                t)),
+            λ t. inside.1 (reached.1
+                (reaches_as c.loop-at.rows ids u.used used k (λ n. ((same n).1, (same n).0)) t)),
           )),
       c.in_ok-rows-2.ensures.emptied
           ∙ ap (λ (n : ℕ). replicate n 0)
