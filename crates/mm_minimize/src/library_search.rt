@@ -1,10 +1,11 @@
 //! A search for shorter proofs by what the database has before a theorem.
 
-ghost use Rattle.std.specs.Prelude.{◌≡◌, false, IsTrue};
+ghost use Rattle.std.specs.Prelude.{◌≡◌, ◌↔◌, false, max, IsTrue, OnOk};
 ghost use Rattle.mm_frame.specs.Numbers.{IsAssertionNumber};
 ghost use Rattle.mm_step.specs.Steps.{AreSteps};
 ghost use Rattle.mm_rules.specs.Conclusion.{numbers_of};
 ghost use Rattle.mm_rules.specs.Rests.{AreRising};
+ghost use Rattle.mm_verdict.specs.Mirror.Theorems.{AreProvedSteps};
 
 use crate::remarks::Remark;
 use crate::search::{OwnSize, Search};
@@ -47,7 +48,7 @@ fn mathbox_number(remark: &Remark) -> u32 {
 
 /// Whether a number is that of an assertion.
 fn is_assertion(book: &Book, id: LabelId) -> bool
-    ensures { IsTrue result → IsAssertionNumber book.now.statements id.0 }
+    ensures { IsTrue result ↔ IsAssertionNumber book.now.statements id.0 }
 {
     if !book.is_label(id) {
         return false;
@@ -110,7 +111,10 @@ impl<'c> LibrarySearch<'c> {
     }
 
     /// Enters a statement of the book, if it is an assertion.
-    fn enter(&mut self, book: &Book, id: LabelId) -> Result<(), AllocError> {
+    fn enter(&mut self, book: &Book, id: LabelId) -> Result<(), AllocError>
+        ensures passed { self.new.passed ≡ self.old.passed }
+        ensures others { ¬ (IsAssertionNumber book.now.statements id.0) → self.new ≡ self.old }
+    {
         if !is_assertion(book, id) {
             return Ok(());
         }
@@ -127,7 +131,9 @@ impl<'c> LibrarySearch<'c> {
     }
 
     /// Enters the assertions before a number that weren't entered.
-    fn pass(&mut self, book: &Book, end: LabelId) -> Result<(), AllocError> {
+    fn pass(&mut self, book: &Book, end: LabelId) -> Result<(), AllocError>
+        ensures { OnOk result (self.new.passed ≡ max self.old.passed end.0) }
+    {
         for number in self.passed..end.0 {
             self.enter(book, LabelId(number))?;
             self.passed = number + 1;
@@ -144,7 +150,13 @@ impl<'c> Search for LibrarySearch<'c> {
         id: LabelId,
         steps: &Steps,
         size: OwnSize,
-    ) -> Result<Option<Vec<u8>>, AllocError> {
+    ) -> Result<Option<Vec<u8>>, AllocError>
+        requires steps { AreSteps book.now.statements id.0 steps.now.moves }
+        requires proved { AreProvedSteps book.now.statements id.0 steps.now }
+        requires whole { steps.now.prefix ≡ false }
+        // A refused growth on the way to the theorem isn't passed over.
+        ensures passed { OnOk result (self.new.passed ≡ max self.old.passed id.0) }
+    {
         self.pass(book, id)?;
         if !has_few_symbols(alloc, book, steps)? {
             return Ok(None);

@@ -152,8 +152,9 @@ pub(crate) fn remarks_of(alloc: Global, seed: Seed, files: &[File]) -> Result<Ve
 
 /// Whether a theorem may newly use an assertion.
 pub(crate) fn may_use(theorem: &Remark, assertion: &Remark) -> bool
-    ensures { IsTrue result → (files : List PlainFile) → (s a : PlainStatement)
-        → IsRemarkOf files s theorem.now → IsRemarkOf files a assertion.now → MayUse files s a }
+    ensures { (files : List PlainFile) → (s a : PlainStatement)
+        → IsRemarkOf files s theorem.now → IsRemarkOf files a assertion.now
+        → IsTrue result ↔ MayUse files s a }
 {
     if assertion.is_discouraged {
         return false;

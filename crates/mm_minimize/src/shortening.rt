@@ -2,6 +2,7 @@
 
 ghost use Rattle.std.specs.Prelude.{◌≡◌, ◌↔◌, ◌<◌, ◌≤◌, List, ℕ, map, length, Contains, slice_get, true};
 ghost use Rattle.std.specs.Prelude.{false, IsTrue, IfOk, IfErr, IfSome, Some, None, take};
+ghost use Rattle.std.specs.Prelude.{MatchOption};
 ghost use Rattle.std.specs.List.{AllByRecursion};
 ghost use Rattle.std.specs.Option.{option_to_list};
 ghost use Rattle.mm_base.specs.Statement.{PlainStatement};
@@ -11,7 +12,7 @@ ghost use Rattle.mm_frame.specs.Sentence.{Sentence};
 ghost use Rattle.mm_step.specs.Steps.{AreSteps, IsProofNumber};
 ghost use Rattle.mm_rules.specs.declared.ask.AskFault.TheVariants.{Memory};
 ghost use Rattle.mm_rules.specs.Rests.{AreRising, IsAt};
-ghost use Rattle.mm_render.specs.Shorter.{IsMinimized};
+ghost use Rattle.mm_render.specs.Shorter.{IsMinimized, IsMarkedWith, proof_mark};
 ghost use Rattle.mm_rules.specs.Mirror.Marks.{UsedIn};
 ghost use Rattle.mm_minimize.specs.Mirror.Shortening.{KnowsDatabase, AreNewlyUsed, IsAllowedIn};
 ghost use Rattle.mm_minimize.specs.Mirror.Shortening.{IsRemarkOf};
@@ -91,6 +92,17 @@ fn is_by_one_alone(book: &Book, theorem: LabelId, used: &[LabelId]) -> bool
         }
     }
     some
+}
+
+/// The small text of the shorter proof that was found; of the theorem's own, where none was.
+fn shortest(own: OwnProof, found: Option<Shorter>) -> Vec<u8>
+    ensures { MatchOption found (result.items ≡ own.text.items)
+        (λ new. result.items ≡ new.proof.text.items) }
+{
+    match found {
+        Some(new) => new.proof.text,
+        None => own.text,
+    }
 }
 
 /// Whether a proof is shorter than another: its text has fewer bytes, and it takes no more steps.
@@ -217,7 +229,9 @@ impl<'c, 'a> Shortening<'c, 'a> {
         requires known { KnowsDatabase self.now }
         requires within { theorem.0
             < length (labelled_sentences self.now.checked.now.sentences) }
-        ensures { result ≡ false → IsUnmarkedIn self.now.checked.now.files theorem.0 }
+        ensures { (statements : List PlainStatement) → (index : ℕ) → (s : PlainStatement)
+            → Reads self.now.checked.now.files statements None → IsAt statements theorem.0 index s
+            → IsTrue result ↔ IsMarkedWith proof_mark self.now.checked.now.files s }
     {
         let remark = self.remark(theorem);
         remark.is_settled
@@ -360,9 +374,6 @@ impl<'c, 'a> Shortening<'c, 'a> {
         let checked = self.checked;
         let own = own_proof(alloc, &checked.book, theorem)?;
         let found = self.found(alloc, theorem, &own, search)?;
-        match found {
-            Some(shorter) => Ok(shorter.proof.text),
-            None => Ok(own.text),
-        }
+        Ok(shortest(own, found))
     }
 }

@@ -1,20 +1,21 @@
 //! A file in which each proof that a search makes shorter is replaced.
 
 ghost use Rattle.std.specs.Prelude.{◌≡◌, ◌<◌, ◌≤◌, List, [], length, true, None, IfOk, IfErr, OnOk};
-ghost use Rattle.std.specs.Prelude.{IsTrue, ℕ, ◌⊎◌, false};
+ghost use Rattle.std.specs.Prelude.{IsTrue, ℕ, ◌↔◌, IfSome};
 ghost use Rattle.mm_base.specs.Statement.{PlainStatement, plain_statement, HasForm};
 ghost use Rattle.mm_text.specs.Reading.{Reads};
 ghost use Rattle.mm_rules.specs.declared.ask.AskFault.TheVariants.{Memory};
 ghost use Rattle.mm_minimize.specs.AllShorter.{IsAllShortened, IsAllShorterFault};
 ghost use Rattle.mm_render.specs.Saved.{FitsSaved, within_span};
 ghost use Rattle.mm_minimize.specs.Mirror.AllShortening.{IsAllShortenedIn, IsShortenedSoFar};
+ghost use Rattle.mm_minimize.specs.Mirror.AllShortening.{IsTextOfFound, IsWanted, MayBeWritten};
 ghost use Rattle.mm_minimize.specs.Mirror.AllShortening.{MayStandIn, PutsShorter};
 ghost use Rattle.mm_verdict.specs.Mirror.Rereading.{IsTheoremIn};
 ghost use Rattle.mm_minimize.specs.Mirror.Shortening.{KnowsDatabase};
 ghost use Rattle.mm_save.specs.Mirror.AllSaving.{IsWrittenSoFar};
 ghost use Rattle.mm_verdict.specs.declared.form.Form.TheVariants.{Small};
 
-use crate::compared::shorter_proof;
+use crate::compared::{Compared, shorter_proof};
 use crate::search::Search;
 use crate::shortening::{Shortening, Shorter};
 use mm_base::Statement;
@@ -36,9 +37,31 @@ pub struct Wanted {
 
 /// Whether a shorter proof is put, with duplicates or without.
 fn is_wanted(duplicates: bool, new: &Shorter) -> bool
-    ensures { IsTrue result → (duplicates ≡ true) ⊎ (new.now.is_duplicate ≡ false) }
+    ensures { IsTrue result ↔ IsWanted duplicates new.now }
 {
     duplicates || !new.is_duplicate
+}
+
+/// What is put in place of the old bytes of a theorem's proof: the shorter one that was found, if it
+/// is wanted; else these bytes.
+fn text_of_found(
+    alloc: Global,
+    checked: &Checked,
+    duplicates: bool,
+    found: &Option<Compared>,
+    old: &[u8],
+) -> Result<Vec<u8>, AskFault>
+    requires may { IfSome found.now (MayBeWritten checked.now) }
+    ensures text { IfOk result (λ put. IsTextOfFound checked.now duplicates found.now old.now
+        put.items) }
+    ensures memory { IfErr result (λ fault. fault ≡ Memory) }
+{
+    match found {
+        Some(both) if is_wanted(duplicates, &both.new) => {
+            small_span_text(alloc, checked, &both.new.theorem, old)
+        }
+        _ => Ok(Vec::from_slice(alloc, old)?),
+    }
 }
 
 /// What is put in place of the old bytes of the proof of the theorem with this number: a shorter
@@ -63,12 +86,7 @@ fn text_for<'a, S: Search>(
     ensures memory { IfErr result (λ fault. fault ≡ Memory) }
 {
     let found = shorter_proof(alloc, shortening, statement, id, search)?;
-    match found {
-        Some(both) if is_wanted(duplicates, &both.new) => {
-            small_span_text(alloc, shortening.checked, &both.new.theorem, old)
-        }
-        _ => Ok(Vec::from_slice(alloc, old)?),
-    }
+    text_of_found(alloc, shortening.checked, duplicates, &found, old)
 }
 
 /// Writes the theorem with this number, whose statement is read again.

@@ -1,7 +1,7 @@
 //! The proofs that a search makes shorter, as lines.
 
 ghost use Rattle.std.specs.Prelude.{◌≡◌, ◌+◌, ◌++◌, ◌<◌, ◌^◌, List, [], length, map, min};
-ghost use Rattle.std.specs.Prelude.{None, IfOk, IfErr, OnOk};
+ghost use Rattle.std.specs.Prelude.{◌-◌, None, IfOk, IfErr, IfSome, MatchOption, OnOk};
 ghost use Rattle.std.specs.List.{AllByRecursion};
 ghost use Rattle.mm_base.specs.Statement.{PlainStatement, plain_statement, HasForm};
 ghost use Rattle.mm_text.specs.Reading.{Reads};
@@ -89,7 +89,9 @@ impl Sums {
     }
 
     /// How many bytes the shorter proofs have less than the own ones.
-    fn saved(self) -> usize {
+    fn saved(self) -> usize
+        ensures { result ≡ self.own.bytes - self.new.bytes }
+    {
         self.own.bytes.saturating_sub(self.new.bytes)
     }
 
@@ -171,6 +173,25 @@ impl Listing {
         self.sums = self.sums.with(Sizes::of(&both.own), Sizes::of(&new.proof));
         Ok(())
     }
+
+    /// Puts the line of the theorem with a label, if a shorter proof of it was found.
+    fn tell(
+        &mut self,
+        alloc: Global,
+        shortening: &Shortening,
+        label: &[u8],
+        found: &Option<Compared>,
+    ) -> Result<(), AllocError>
+        requires may { IfSome found.now (MayBeListed shortening.now.checked.now) }
+        requires few { self.old.sums.proofs < 2 ^ 62 }
+        ensures { OnOk result (MatchOption found.now (self.new ≡ self.old)
+            (λ both. PutsLine shortening.now.checked.now label.now both self.old self.new)) }
+    {
+        match found {
+            Some(both) => self.push(alloc, shortening, label, both),
+            None => Ok(()),
+        }
+    }
 }
 
 /// Lists the theorem with a number, whose statement this is, as it was read again, if its proof
@@ -193,9 +214,7 @@ fn list_theorem<'a, S: Search>(
     ensures memory { IfErr result (λ fault. fault ≡ Memory) }
 {
     let found = shorter_proof(alloc, shortening, statement, id, search)?;
-    if let Some(both) = found {
-        list.push(alloc, shortening, label_of(statement), &both)?;
-    }
+    list.tell(alloc, shortening, label_of(statement), &found)?;
     Ok(())
 }
 

@@ -67,6 +67,9 @@ kk $p |- ( R -> ( P -> ( Q -> P ) ) ) $=
 /// Marks a theorem whose proof is to stay.
 const SETTLED: &[u8] = b"$( (Proof modification is discouraged.) $)\n";
 
+/// Marks a theorem that no further proof should use.
+const DISCOURAGED: &[u8] = b"$( (New usage is discouraged.) $)\n";
+
 /// A theorem that says what `add` says.
 const TWIN: &[u8] = b"\
 ${
@@ -96,7 +99,7 @@ const ANN: &[u8] = b"$( #*#*# Mathbox for Ann $)\n";
 const BOB: &[u8] = b"$( #*#*# Mathbox for Bob $)\n";
 
 /// The shortest proof of one theorem.
-const MINIMIZED: [Asked; 10] = [
+const MINIMIZED: [Asked; 12] = [
     Asked {
         name: "a shorter proof by an earlier theorem",
         command: About {
@@ -179,6 +182,29 @@ const MINIMIZED: [Asked; 10] = [
             question: Question::Minimized,
         },
         files: &[(b"a.mm", &[Text(HEAD), Text(ANN), Text(ADD), Text(LONG)])],
+        reply: &[Text(b"      ( wim k add )\n"), Text(b"      ABADDCABEF\n")],
+        status: 0,
+    },
+    Asked {
+        name: "a proof in a mathbox by a theorem that stands in none",
+        command: About {
+            label: b"kk",
+            question: Question::Minimized,
+        },
+        files: &[(b"a.mm", &[Text(HEAD), Text(ADD), Text(ANN), Text(LONG)])],
+        reply: &[Text(b"      ( wim k add )\n"), Text(b"      ABADDCABEF\n")],
+        status: 0,
+    },
+    Asked {
+        name: "a shorter proof of a theorem of which new uses are discouraged",
+        command: About {
+            label: b"kk",
+            question: Question::Minimized,
+        },
+        files: &[(
+            b"a.mm",
+            &[Text(HEAD), Text(ADD), Text(DISCOURAGED), Text(LONG)],
+        )],
         reply: &[Text(b"      ( wim k add )\n"), Text(b"      ABADDCABEF\n")],
         status: 0,
     },

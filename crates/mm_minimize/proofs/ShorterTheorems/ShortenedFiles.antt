@@ -1,9 +1,10 @@
 -- A file on its way to having shorter proofs: theorem by theorem, from the first span on.
 use Rattle.std.proofs.Common.{◌≡◌, ℕ, ◌≤◌, List, [], ◌∷◌, ◌++◌, take, length}
-use Rattle.std.proofs.Common.{Bool, true, false, cond, ◌&&◌, ◌==◌, Some, None}
+use Rattle.std.proofs.Common.{Bool, true, false, cond, ◌&&◌, ◌==◌, Option, Some, None}
+use Rattle.std.specs.Prelude.{IfSome}
 use Rattle.std.proofs.Common.{◌⊎◌, inl, inr, refl, sym, ap, subst, ◌∙◌}
 use Rattle.std.proofs.Common.{append-nil}
-use Rattle.std.proofs.lemmas.Bool.{false_from_ne_true}
+use Rattle.std.proofs.lemmas.Bool.{cases_Bool, false_from_ne_true}
 use Rattle.std.proofs.lemmas.List.Elements.{filter-append}
 use Rattle.mm_base.specs.declared.statement.Kind.TheVariants.{Provable}
 use Rattle.mm_base.specs.Statement.{PlainStatement, HasForm, plain_statement}
@@ -14,6 +15,7 @@ use Rattle.mm_step.specs.Moves.{Move}
 use Rattle.mm_step.specs.Tree.{Trees}
 use Rattle.mm_rules.specs.declared.ask.AskFault.{AskFault}
 use Rattle.mm_minimize.specs.declared.compared.Compared.{Compared}
+use Rattle.mm_minimize.specs.declared.shortening.Shorter.{Shorter}
 use Rattle.mm_verdict.specs.declared.form.Form.TheVariants.{Small}
 use Rattle.mm_save.specs.declared.save_all.NewFile.{NewFile}
 use Rattle.mm_verdict.specs.declared.theorems.Rereading.{Rereading}
@@ -24,9 +26,11 @@ use Rattle.mm_render.specs.Saved.{IsSpanText, within_span}
 use Rattle.mm_rules.specs.Verdict.{is_proof, sentences}
 use Rattle.mm_save.specs.Mirror.AllSaving.{AreReplacedSoFar, IsFinishFault, IsTakenSoFar, IsWhole}
 use Rattle.mm_minimize.specs.Mirror.AllShortening.{IsAllShortenedIn, IsShortenedSoFar, IsShorterFor}
+use Rattle.mm_minimize.specs.Mirror.AllShortening.{IsTextOfFound, IsWanted, MayBeWritten}
 use Rattle.mm_minimize.specs.Mirror.AllShortening.{MayStandIn, PutsShorter}
 use Rattle.mm_verdict.specs.Mirror.Rereading.{AreNoTheorems, GoesTo}
 use Rattle.mm_render.specs.Mirror.Rewriting.{IsSpanTextOf}
+use Rattle.mm_render.specs.Mirror.Shortening.{AreHanded}
 use Rattle.mm_minimize.specs.Mirror.Shortening.{MakeTreeOf}
 use Rattle.mm_verdict.proofs.Questions.AskedTheorems.{map-take}
 use Rattle.mm_verdict.proofs.Questions.TheoremsAgain.{at_reads}
@@ -92,6 +96,42 @@ stands_shorter c duplicates id s both old put bytes formed complete h chosen lai
         },
       ),
     )
+
+-- a shorter proof is wanted, or it isn't
+wanted_cases : (duplicates : Bool) (new : Shorter)
+    → IsWanted duplicates new ⊎ ¬ (IsWanted duplicates new)
+wanted_cases true new = inl (inl refl)
+wanted_cases false new = elim (cases_Bool new.is_duplicate) [
+  | inl alone ↦ inr (λ wanted. elim wanted [
+    | inl all ↦ absurd cc
+    | inr other ↦ absurd cc
+  ])
+  | inr other ↦ inl (inr other)
+]
+
+-- it is one of its theorem
+pub may_be_written : (c : Conclusion) (id : ℕ) (s : PlainStatement) (found : Option Compared)
+    → IfSome found (IsShorterFor c id s) → IfSome found (MayBeWritten c)
+may_be_written c id s None h = tt
+may_be_written c id s (Some both) h =
+    let handed = subst (λ (n : ℕ). AreHanded c.profile c.sentences n both.new.theorem.steps both.new.used)
+    (sym h.number) h.handed in (handed.usable, handed.proved, handed.whole)
+
+-- what was found, or the old bytes
+pub found_stands : (c : Conclusion) (duplicates : Bool) (id : ℕ) (s : PlainStatement)
+    (found : Option Compared) (old put bytes : List ℕ) → HasForm s → is_proof s ≡ true
+    → IfSome found (IsShorterFor c id s) → IsTextOfFound c duplicates found old put
+    → old ≡ within_span bytes s.span → MayStandIn c duplicates bytes s put
+found_stands c duplicates id s None old put bytes formed complete h text stands statements reads =
+    (refl, inl (text ∙ stands))
+found_stands c duplicates id s (Some both) old put bytes formed complete h text stands statements
+    reads =
+    elim (wanted_cases duplicates both.new) [
+      | inl wanted ↦
+          stands_shorter c duplicates id s both old put bytes formed complete h wanted
+          (text.0 wanted) stands statements reads
+      | inr unwanted ↦ (refl, inl (text.1 unwanted ∙ stands))
+    ]
 
 -- ==== the file, theorem by theorem
 

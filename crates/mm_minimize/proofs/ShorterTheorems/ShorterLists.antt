@@ -1,6 +1,7 @@
 -- The list of shorter proofs: line by line, with the sums over the lines.
 use Rattle.std.proofs.Common.{◌≡◌, ℕ, ◌+◌, ◌<◌, ◌≤◌, List, [], ◌∷◌, ◌++◌, length}
-use Rattle.std.proofs.Common.{true, is_some, codes, None, min, map, Contains, inl, inr, refl, sym, ap}
+use Rattle.std.specs.Prelude.{IfSome, MatchOption}
+use Rattle.std.proofs.Common.{true, is_some, codes, Option, Some, None, min, map, Contains, inl, inr, refl, sym, ap}
 use Rattle.std.proofs.Common.{subst, ◌∙◌, arith, append_assoc, append-nil, length-append}
 use Rattle.std.specs.List.{AllByRecursion, flat_map, sum_by}
 use Rattle.std.proofs.lemmas.List.{map-append}
@@ -171,6 +172,24 @@ listed_line c id s label both old new h named put = record {
   text = put.put;
   sums = put.sums;
 }
+
+-- what was found may be listed, and is
+pub may_list_found : (c : Conclusion) (id : ℕ) (s : PlainStatement)
+    (statements : List PlainStatement) (found : Option Compared) → Reads c.files statements None
+    → HasForm s → is_proof s ≡ true → KeepsLabels c.files c → IfSome found (IsShorterFor c id s)
+    → IfSome found (MayBeListed c)
+may_list_found c id s statements None reads formed complete labels h = tt
+may_list_found c id s statements (Some both) reads formed complete labels h =
+    may_be_listed c id s both statements reads formed complete labels h
+
+pub lists_found : (c : Conclusion) (id : ℕ) (s : PlainStatement) (label : List ℕ)
+    (found : Option Compared) (old new : Listing) → IfSome found (IsShorterFor c id s)
+    → IsLabelled label (sentence_of s)
+    → MatchOption found (new ≡ old) (λ both. PutsLine c label both old new)
+    → ListsNext c id old new
+lists_found c id s label None old new h named same = inr same
+lists_found c id s label (Some both) old new h named put =
+    inl (listed_line c id s label both old new h named put)
 
 -- ---- the lines so far
 

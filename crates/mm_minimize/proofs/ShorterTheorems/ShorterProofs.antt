@@ -1,7 +1,8 @@
 -- A shorter proof of a theorem: what is told of remarks, of what it rests on, and of the steps of a
 -- text, is told of the statements of the files.
 use Rattle.std.proofs.Common.{◌≡◌, ◌↔◌, ℕ, ◌+◌, ◌<◌, ◌≤◌, List, take, length, slice_get, Contains}
-use Rattle.std.proofs.Common.{true, Some, None, ◌⊎◌, inl, inr, refl, sym, subst, arith}
+use Rattle.std.proofs.Common.{true, Option, Some, None, ◌⊎◌, inl, inr, refl, sym, subst, arith}
+use Rattle.std.specs.Prelude.{IfSome, MatchOption}
 use Rattle.mm_base.specs.Statement.{PlainStatement}
 use Rattle.mm_text.specs.Files.{PlainFile}
 use Rattle.mm_text.specs.Reading.{Reads}
@@ -217,6 +218,21 @@ pub minimized_by : (profile : Profile) (files : List PlainFile) (statements : Li
     → IsMinimized profile files statements label new.proof.text.items
 minimized_by profile files statements label old own new small found =
     (own.text.items, small, inr (found.t, found.shorter))
+
+-- just as one was found
+pub minimized_found : (profile : Profile) (files : List PlainFile) (statements : List PlainStatement)
+    (label : List ℕ) (old : Theorem) (own : OwnProof) (found : Option Shorter) (text : List ℕ)
+    → Reads files statements None → AreStepsOf statements label old.id.0 old.steps.moves
+    → IsSmallOf statements label own.text.items
+    → IfSome found (λ new. (l : List ℕ) (ss : List PlainStatement) → Reads files ss None
+    → AreStepsOf ss l old.id.0 old.steps.moves → IsFound profile files ss l old own new)
+    → MatchOption found (text ≡ own.text.items) (λ new. text ≡ new.proof.text.items)
+    → IsMinimized profile files statements label text
+minimized_found profile files statements label old own None text reads r small h told =
+    rw told (minimized_own profile files statements label own.text.items small)
+minimized_found profile files statements label old own (Some new) text reads r small h told =
+    rw told (minimized_by profile files statements label old own new small
+    (h label statements reads r))
 
 -- what the proof uses are numbers of labels
 pub used_within : (profile : Profile) (told : List Sentence) (id : ℕ) (steps : ReadSteps)

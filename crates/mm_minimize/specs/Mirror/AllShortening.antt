@@ -1,11 +1,12 @@
 -- What the code knows on its way to a file with shorter proofs, and to the list of them. This file
 -- mirrors the code, and is cited by private contracts alone.
-use Rattle.std.specs.Prelude.{◌≡◌, ℕ, ◌≤◌, ◌⊎◌, List, Bool, length, map}
-use Rattle.std.specs.Prelude.{None, ◌+◌, ◌++◌, ◌<◌, min}
+use Rattle.std.specs.Prelude.{◌≡◌, ℕ, ◌≤◌, ◌⊎◌, List, Bool, true, false, length, map}
+use Rattle.std.specs.Prelude.{Option, Some, None, ◌+◌, ◌++◌, ◌<◌, min}
 use Rattle.std.specs.List.{AllByRecursion}
 use Rattle.mm_base.specs.Statement.{PlainStatement}
 use Rattle.mm_text.specs.Reading.{Reads}
 use Rattle.mm_frame.specs.Sentence.{sentence_of, IsLabelled}
+use Rattle.mm_step.specs.Steps.{AreSteps}
 use Rattle.mm_render.specs.declared.forms.OwnProof.{OwnProof}
 use Rattle.mm_minimize.specs.declared.compared.Compared.{Compared}
 use Rattle.mm_minimize.specs.declared.shorter_list.Listing.{Listing}
@@ -13,6 +14,7 @@ use Rattle.mm_minimize.specs.declared.shorter_list.Sizes.{Sizes}
 use Rattle.mm_minimize.specs.declared.shorter_list.Sums.{Sums}
 use Rattle.mm_save.specs.declared.save_all.NewFile.{NewFile}
 use Rattle.mm_minimize.specs.declared.shortening.Shorter.{Shorter}
+use Rattle.mm_verdict.specs.declared.form.Form.TheVariants.{Small}
 use Rattle.mm_verdict.specs.declared.theorem.Theorem.{Theorem}
 use Rattle.mm_save.specs.AllSaved.{Replacement}
 use Rattle.mm_minimize.specs.AllShorter.{IsShortened, IsShorterLine, ProofSize, ShorterLine, most_sum}
@@ -23,6 +25,8 @@ use Rattle.mm_rules.specs.Verdict.{sentences}
 use Rattle.mm_rules.specs.Conclusion.{Conclusion}
 use Rattle.mm_save.specs.Mirror.AllSaving.{AreReplacedSoFar, IsTakenSoFar, PutsText, replacement}
 use Rattle.mm_verdict.specs.Mirror.Rereading.{label_count}
+use Rattle.mm_verdict.specs.Mirror.Theorems.{AreProvedSteps}
+use Rattle.mm_render.specs.Mirror.Rewriting.{IsSpanTextOf}
 use Rattle.mm_render.specs.Mirror.Shortening.{AreHanded}
 use Rattle.mm_minimize.specs.Mirror.Shortening.{AreNewlyUsed, IsFound}
 
@@ -39,6 +43,27 @@ MayReplace c duplicates bytes s new =
 abbrev pub MayStandIn : Conclusion → (duplicates : Bool) → (bytes : List ℕ) → PlainStatement
     → (text : List ℕ) → Type 0
 MayStandIn c duplicates bytes s text = MayReplace c duplicates bytes s (replacement s text)
+
+-- a shorter proof is put, with duplicates or without
+abbrev pub IsWanted : (duplicates : Bool) → Shorter → Type 0
+IsWanted duplicates new = (duplicates ≡ true) ⊎ (new.is_duplicate ≡ false)
+
+-- the steps of the other proof are those of a complete one of its theorem
+abbrev pub MayBeWritten : Conclusion → Compared → Type 0
+MayBeWritten c both =
+    AreSteps c.sentences both.new.theorem.id.0 both.new.theorem.steps.moves
+    × AreProvedSteps c.sentences both.new.theorem.id.0 both.new.theorem.steps
+    × (both.new.theorem.steps.prefix ≡ false)
+
+-- This is put in place of the old bytes of a theorem's proof, where this was found: the small proof
+-- that was found, if it is wanted, and else the old bytes.
+abbrev pub IsTextOfFound : Conclusion → (duplicates : Bool) → Option Compared → (old put : List ℕ)
+    → Type 0
+IsTextOfFound c duplicates None old put = put ≡ old
+IsTextOfFound c duplicates (Some both) old put =
+    (IsWanted duplicates both.new → IsSpanTextOf Small c.sentences both.new.theorem.id.0
+    both.new.theorem.steps.moves old put)
+    × (¬ (IsWanted duplicates both.new) → put ≡ old)
 
 -- the bytes up to the proof of the theorem were taken, and then what may stand in its place was put
 pub record PutsShorter (c : Conclusion) (duplicates : Bool) (s : PlainStatement)

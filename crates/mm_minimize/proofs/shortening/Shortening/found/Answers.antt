@@ -9,6 +9,11 @@ is_settled-requires-clause-within g c =
     numbered_within c.args.self.now.checked.now.sentences c.args.theorem.now.id.0
     c.requires.steps.index c.requires.steps.s c.requires.steps.proof.numbered
 
+pub shorter-requires-clause-unmarked : goal.shorter-requires-clause-unmarked
+shorter-requires-clause-unmarked g c = λ statements index s reads at marked.
+    absurd (let set = (c.is_settled.ensures statements index s reads at).1 marked in
+    let unset = c.if-is_settled.false in cc)
+
 pub candidate-requires-clause-proved : goal.candidate-requires-clause-proved
 candidate-requires-clause-proved g c =
     rw (ap (λ (v : Conclusion). v.sentences) c.checked.view_is) c.requires.proved

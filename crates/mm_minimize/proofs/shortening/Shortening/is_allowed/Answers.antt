@@ -35,6 +35,6 @@ returns c = λ may statements index s reads at.
     newly_used now.files statements now c.args.theorem.0 c.args.used.0 s
     (all_meant now.profile statements of.accepted.obeyed) of.kept
     (founded now.sentences now.uses c.requires.known.told)
-    (λ place a there. c.may_use.ensures may now.files s a
+    (λ place a there. (c.may_use.ensures now.files s a
     (c.remark-own.ensures statements index s reads at)
-    (c.remark-other.ensures statements place a reads there))
+    (c.remark-other.ensures statements place a reads there)).0 may)

@@ -1,7 +1,7 @@
--- What is said of the theorem is that it isn't marked.
+-- What is said of the theorem is whether it is marked.
 use Rattle.mm_minimize.proofs.shortening.Shortening.is_settled.Goals as goal
 
 pub returns : goal.returns
-returns c = λ unset statements index s reads at marked.
+returns c = λ statements index s reads at.
     let said = c.remark-remark.ensures statements index s reads at in
-    absurd (let set = said.settled.1 marked in cc)
+    said.settled

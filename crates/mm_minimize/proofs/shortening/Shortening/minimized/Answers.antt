@@ -2,29 +2,20 @@
 use Rattle.std.proofs.Common.{◌≡◌, ap, subst}
 use Rattle.mm_rules.specs.Conclusion.{Conclusion}
 use Rattle.mm_verdict.proofs.Verdicts.AcceptedStatements.{AreOf, read_statements, KeptWell}
-use Rattle.mm_minimize.proofs.ShorterTheorems.ShorterProofs.{small_of, minimized_own, minimized_by}
+use Rattle.mm_minimize.proofs.ShorterTheorems.ShorterProofs.{small_of, minimized_found}
 use Rattle.mm_minimize.proofs.shortening.Shortening.minimized.Goals as goal
 
 pub own_proof-requires-clause-proved : goal.own_proof-requires-clause-proved
 own_proof-requires-clause-proved g c =
     rw (ap (λ (v : Conclusion). v.sentences) c.checked.view_is) c.requires.proved
 
-pub returns-in-Some : goal.returns-in-Some
-returns-in-Some g c = λ label statements reads r.
+pub returns : goal.returns
+returns g c = λ label statements reads r.
     let now : Conclusion = c.args.self.now.checked.now in
     let well : KeptWell now = subst KeptWell c.checked.view_is c.checked.invariant in
     let told : c.checked.inside.book.statements ≡ now.sentences = ap (λ (v : Conclusion). v.sentences) c.checked.view_is in
     let of : AreOf now statements = read_statements now statements well.origin reads in
     let small = small_of statements now.sentences label c.args.theorem.now c.in_ok-own.own of.kept.sentences r c.requires.proved (rw told at c.in_ok-own.ensures) in
-    let found = rw c.in-Some.is at c.in_ok-found.ensures.found in
-    minimized_by now.profile now.files statements label c.args.theorem.now c.in_ok-own.own
-    c.in-Some.shorter small (found label statements reads r)
-
-pub returns-in-None : goal.returns-in-None
-returns-in-None g c = λ label statements reads r.
-    let now : Conclusion = c.args.self.now.checked.now in
-    let well : KeptWell now = subst KeptWell c.checked.view_is c.checked.invariant in
-    let told : c.checked.inside.book.statements ≡ now.sentences = ap (λ (v : Conclusion). v.sentences) c.checked.view_is in
-    let of : AreOf now statements = read_statements now statements well.origin reads in
-    minimized_own now.profile now.files statements label c.in_ok-own.own.text.items
-    (small_of statements now.sentences label c.args.theorem.now c.in_ok-own.own of.kept.sentences r c.requires.proved (rw told at c.in_ok-own.ensures))
+    minimized_found now.profile now.files statements label c.args.theorem.now c.in_ok-own.own
+    c.in_ok-found.found c.shortest.result.items reads r small c.in_ok-found.ensures.found
+    c.shortest.ensures
