@@ -5,3 +5,4 @@ pub mod Folder
 pub mod Notes
 pub mod Words
 pub mod ReadFiles
+pub mod Pages

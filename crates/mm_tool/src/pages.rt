@@ -1,6 +1,8 @@
 //! The page of each command, as `mm help COMMAND` tells it: at most 80 columns.
 
-ghost use Rattle.std.specs.Prelude.{◌≡◌, map};
+ghost use Rattle.std.specs.Prelude.{◌≡◌, codes, map, IsTrue};
+ghost use Rattle.std.specs.List.{AllByRecursion};
+ghost use Rattle.mm_tool.specs.Pages.{is_page_of};
 ghost use Rattle.mm_tool.specs.Words.{command_names};
 
 /// A command by its name, and what is told of it.
@@ -437,73 +439,107 @@ Example:
 ";
 
 // Each text comes from a call, so that what is proved of a caller doesn't hold its bytes.
-fn check_page() -> &'static str {
+fn check_page() -> &'static str
+    ensures { IsTrue (is_page_of (codes "check") result.now) }
+{
     CHECK
 }
 
-fn faults_page() -> &'static str {
+fn faults_page() -> &'static str
+    ensures { IsTrue (is_page_of (codes "faults") result.now) }
+{
     FAULTS
 }
 
-fn why_page() -> &'static str {
+fn why_page() -> &'static str
+    ensures { IsTrue (is_page_of (codes "why") result.now) }
+{
     WHY
 }
 
-fn axioms_page() -> &'static str {
+fn axioms_page() -> &'static str
+    ensures { IsTrue (is_page_of (codes "axioms") result.now) }
+{
     AXIOMS
 }
 
-fn users_page() -> &'static str {
+fn users_page() -> &'static str
+    ensures { IsTrue (is_page_of (codes "users") result.now) }
+{
     USERS
 }
 
-fn statement_page() -> &'static str {
+fn statement_page() -> &'static str
+    ensures { IsTrue (is_page_of (codes "statement") result.now) }
+{
     STATEMENT
 }
 
-fn show_page() -> &'static str {
+fn show_page() -> &'static str
+    ensures { IsTrue (is_page_of (codes "show") result.now) }
+{
     SHOW
 }
 
-fn normal_page() -> &'static str {
+fn normal_page() -> &'static str
+    ensures { IsTrue (is_page_of (codes "normal") result.now) }
+{
     NORMAL
 }
 
-fn packed_page() -> &'static str {
+fn packed_page() -> &'static str
+    ensures { IsTrue (is_page_of (codes "packed") result.now) }
+{
     PACKED
 }
 
-fn small_page() -> &'static str {
+fn small_page() -> &'static str
+    ensures { IsTrue (is_page_of (codes "small") result.now) }
+{
     SMALL
 }
 
-fn minimize_page() -> &'static str {
+fn minimize_page() -> &'static str
+    ensures { IsTrue (is_page_of (codes "minimize") result.now) }
+{
     MINIMIZE
 }
 
-fn same_page() -> &'static str {
+fn same_page() -> &'static str
+    ensures { IsTrue (is_page_of (codes "same") result.now) }
+{
     SAME
 }
 
-fn try_page() -> &'static str {
+fn try_page() -> &'static str
+    ensures { IsTrue (is_page_of (codes "try") result.now) }
+{
     TRY
 }
 
-fn explain_page() -> &'static str {
+fn explain_page() -> &'static str
+    ensures { IsTrue (is_page_of (codes "explain") result.now) }
+{
     EXPLAIN
 }
 
-fn help_page() -> &'static str {
+fn help_page() -> &'static str
+    ensures { IsTrue (is_page_of (codes "help") result.now) }
+{
     HELP
 }
 
-fn version_page() -> &'static str {
+fn version_page() -> &'static str
+    ensures { IsTrue (is_page_of (codes "version") result.now) }
+{
     VERSION
 }
 
 /// A page for each command, in the order of the command line.
 pub(crate) fn program_pages() -> [Page<'static>; 16]
-    ensures { map (λ page. page.command.now) result ≡ command_names }
+    ensures commands { map (λ page. page.command.now) result ≡ command_names }
+    ensures usage { AllByRecursion (λ page. IsTrue (is_page_of page.command.now page.text.now))
+        result }
 {
     [
         Page {
