@@ -6,3 +6,4 @@ pub mod Notes
 pub mod Words
 pub mod ReadFiles
 pub mod Pages
+pub mod Progress

@@ -1,11 +1,13 @@
 //! How far a long reply has come, as a line on a terminal that is written over itself.
 
-ghost use Rattle.std.specs.Prelude.{◌≡◌, ◌<◌, map, IfOk, OnOk};
+ghost use Rattle.std.specs.Prelude.{◌≡◌, ◌<◌, ◌++◌, codes, decimal, false, map, true};
+ghost use Rattle.std.specs.Prelude.{IfOk, OnErr, OnOk};
 ghost use Rattle.mm_text.specs.Device.{faults_of};
 ghost use Rattle.mm_text.specs.Files.{plain_file};
 ghost use Rattle.mm_check.specs.Reply.{AsksHanded, IsReplyTo};
 ghost use Rattle.mm_rules.specs.Status.{number_of};
-ghost use Rattle.mm_tool.specs.Ending.{IsUntouched, StaysUnshown};
+ghost use Rattle.mm_tool.specs.Ending.{BreaksOff, IsUntouched, StaysUnshown, TakesWhole, TellsLine};
+ghost use Rattle.mm_tool.specs.Progress.{IsTold, progress_text};
 
 use crate::folder::Resources;
 use crate::say::say_text;
@@ -29,25 +31,34 @@ pub(crate) struct ProgressLine<P> {
     stands: bool,
 }
 
-/// Writes a number.
-fn say_number<P: Write>(device: &mut Counted<P>, number: usize) -> Result<(), WriteFault>
+/// Writes a text, and a number behind it.
+fn say_number<P: Write>(
+    device: &mut Counted<P>,
+    text: &[u8],
+    number: usize,
+) -> Result<(), WriteFault>
     requires { faults_of device.old < u64.MAX }
-    ensures { OnOk result (faults_of device.new ≡ faults_of device.old) }
+    ensures all { OnOk result
+        (TakesWhole P.contents (text.now ++ decimal number) device.old device.new) }
+    ensures beginning { OnErr result
+        (BreaksOff P.contents (text.now ++ decimal number) device.old device.new) }
 {
     let mut digits = Buffer::new();
+    say_text(device, text)?;
     say_text(device, digits.format(number).as_bytes())
 }
 
 /// Writes the line over the one before.
 fn say_line<P: Write>(device: &mut Counted<P>, so_far: SoFar) -> Result<(), WriteFault>
     requires { faults_of device.old < u64.MAX }
+    ensures all { OnOk result
+        (TakesWhole P.contents (progress_text so_far) device.old device.new) }
+    ensures beginning { OnErr result
+        (BreaksOff P.contents (progress_text so_far) device.old device.new) }
 {
-    say_text(device, b"\rmm: ")?;
-    say_number(device, so_far.theorems)?;
-    say_text(device, b" of ")?;
-    say_number(device, so_far.of)?;
-    say_text(device, b" theorems, ")?;
-    say_number(device, so_far.bytes)?;
+    say_number(device, b"\rmm: ", so_far.theorems)?;
+    say_number(device, b" of ", so_far.of)?;
+    say_number(device, b" theorems, ", so_far.bytes)?;
     say_text(device, b" bytes saved")
 }
 
@@ -67,7 +78,12 @@ impl<P> ProgressLine<P> {
 impl<P: Write> ProgressLine<P> {
     /// Ends the line, if it stands there.
     fn end(&mut self)
-        ensures { 0 < faults_of self.old.device → IsUntouched self.old.device self.new.device }
+        ensures failed { 0 < faults_of self.old.device
+            → IsUntouched self.old.device self.new.device }
+        ensures ended { self.old.stands ≡ true → faults_of self.old.device ≡ 0
+            → TellsLine P.contents (codes "\n") self.old.device self.new.device }
+        ensures none { self.old.stands ≡ false → IsUntouched self.old.device self.new.device }
+        ensures stands { self.new.stands ≡ false }
     {
         if self.stands && self.device.faults() == 0 {
             let _ = say_text(&mut self.device, b"\n");
@@ -77,20 +93,37 @@ impl<P: Write> ProgressLine<P> {
 
     /// Writes the line anew. A device that failed isn't called again.
     fn show(&mut self, so_far: SoFar)
-        ensures { 0 < faults_of self.old.device → IsUntouched self.old.device self.new.device }
+        ensures failed { 0 < faults_of self.old.device
+            → IsUntouched self.old.device self.new.device }
+        ensures shown { faults_of self.old.device ≡ 0
+            → TellsLine P.contents (progress_text so_far) self.old.device self.new.device }
+        ensures stands { faults_of self.old.device ≡ 0 → self.new.stands ≡ true }
     {
         if self.device.faults() == 0 {
             let _ = say_line(&mut self.device, so_far);
             self.stands = true;
         }
     }
+
+    /// Writes the line anew after so many theorems, and after the last one.
+    fn tell(&mut self, so_far: SoFar)
+        ensures failed { 0 < faults_of self.old.device
+            → IsUntouched self.old.device self.new.device }
+        ensures told { IsTold so_far → faults_of self.old.device ≡ 0
+            → TellsLine P.contents (progress_text so_far) self.old.device self.new.device }
+        ensures stands { IsTold so_far → faults_of self.old.device ≡ 0
+            → self.new.stands ≡ true }
+        ensures passed { ¬ (IsTold so_far) → self.new ≡ self.old }
+    {
+        if so_far.theorems % THEOREMS_A_LINE == 0 || so_far.theorems == so_far.of {
+            self.show(so_far);
+        }
+    }
 }
 
 impl<P: Write> Watch for ProgressLine<P> {
     fn told(&mut self, so_far: SoFar) {
-        if so_far.theorems % THEOREMS_A_LINE == 0 || so_far.theorems == so_far.of {
-            self.show(so_far);
-        }
+        self.tell(so_far);
     }
 }
 
@@ -106,6 +139,7 @@ pub(crate) fn watched_reply<P: Write>(
     ensures reply { IfOk result (λ reply. IsReplyTo (map plain_file files.now) command.now
         reply.text.items (number_of reply.status)) }
     ensures unshown { StaysUnshown progress.old progress.new }
+    ensures ended { progress.old.is_shown ≡ true → progress.new.stands ≡ false }
 {
     let Resources { alloc, seed } = resources;
     if !progress.is_shown {

@@ -10,7 +10,7 @@ use std::alloc::Global;
 use std::io::Write;
 
 // The proof of kk gets shorter by add, and that of th is one by add alone.
-const ENTRIES: [Entry; 1] = [Entry {
+const ADDED: Entry = Entry {
     name: "added.mm",
     bytes: b"$c wff |- ( -> ) $.
 $v P Q R $.
@@ -23,7 +23,21 @@ kk $p |- ( R -> ( P -> ( Q -> P ) ) ) $= ( wim k mp ) ABADDZCGDABEGCEF $.
 ${ th.1 $e |- P $. th $p |- ( Q -> P ) $= ( wim k mp ) ABADCABEF $. $}
 ",
     breaks: false,
-}];
+};
+
+// No proof of these twenty theorems gets shorter.
+const TWENTY: Entry = Entry {
+    name: "twenty.mm",
+    bytes: b"$c wff |- $. $v P $. wp $f wff P $. ${ e $e |- P $.
+aa $p |- P $= e $. bb $p |- P $= e $. cc $p |- P $= e $. dd $p |- P $= e $.
+ee $p |- P $= e $. ff $p |- P $= e $. gg $p |- P $= e $. hh $p |- P $= e $.
+ii $p |- P $= e $. jj $p |- P $= e $. kk $p |- P $= e $. ll $p |- P $= e $.
+mm $p |- P $= e $. nn $p |- P $= e $. oo $p |- P $= e $. pp $p |- P $= e $.
+qq $p |- P $= e $. rr $p |- P $= e $. ss $p |- P $= e $. tt $p |- P $= e $.
+$}
+",
+    breaks: false,
+};
 
 const LIST: [&str; 4] = ["mm", "minimize", "--list", "added.mm"];
 
@@ -35,7 +49,7 @@ fn outcome_of<P: Write>(
     words: &[&str],
     progress: &mut ProgressLine<P>,
 ) -> (u8, Vec<u8>, Vec<u8>) {
-    let entries = ENTRIES;
+    let entries = [ADDED, TWENTY];
     let mut out = Counted::new(Vec::new(alloc));
     let mut err = Counted::new(Vec::new(alloc));
     let status = serve(
@@ -67,6 +81,12 @@ fn is_told_where_it_is_shown(rt: HostRuntime) {
         (
             FILE.as_slice(),
             b"\rmm: 3 of 3 theorems, 1 bytes saved\n".as_slice(),
+        ),
+        (
+            ["mm", "minimize", "--list", "twenty.mm"].as_slice(),
+            b"\rmm: 16 of 20 theorems, 0 bytes saved\
+\rmm: 20 of 20 theorems, 0 bytes saved\n"
+                .as_slice(),
         ),
         (
             ["mm", "minimize", "kk", "added.mm"].as_slice(),
