@@ -1,7 +1,13 @@
 -- Where the innermost open block begins, as statements are read one by one.
 use Rattle.std.proofs.Common.{◌≡◌, ℕ, ◌+◌, List, [], ◌∷◌, ◌++◌, map, take, drop}
 use Rattle.std.proofs.Common.{length, true, refl, sym, ap, ◌∙◌, arith}
-use Rattle.std.proofs.Common.{reverse}
+use Rattle.std.proofs.Common.{reverse, append_assoc, append-nil, Option, Some, None, inl, inr}
+use Rattle.std.specs.Prelude.{MatchOption, option_map}
+use Rattle.std.specs.Option.{option_to_list}
+use Rattle.mm_base.specs.Token.{plain_token}
+use Rattle.mm_text.specs.Reading.{PlainFault}
+use Rattle.mm_explain.specs.Mirror.Last.{IsOpenBlock, ReadsOn}
+use Rattle.mm_explain.specs.TextFacts.{AreBlocksOpened, blocks_opened}
 use Rattle.std.proofs.lemmas.List.{reverse-append, take-map}
 use Rattle.mm_text.specs.declared.scope.OpenBlock.{OpenBlock}
 use Rattle.mm_base.specs.declared.statement.Kind.{Kind}
@@ -183,3 +189,67 @@ has_more files n old new s blocks more has next are = record {
 pub empty_list : {X : Type 0} (xs : List X) → length xs ≡ 0 → xs ≡ []
 empty_list [] is = refl
 empty_list (x ∷ xs) is = absurd (omega arith)
+
+-- ---- the reading up to a fault of the text
+
+-- The statements so far and those left are these, which the reading ends so; these blocks are open
+-- after those so far, the innermost last.
+pub record IsReadingBlocks (all : List PlainStatement) (ending : Option PlainFault)
+    (left : Remaining) (blocks : List Token) : Type 0 where
+  pub so_far : List PlainStatement
+  pub whole : all ≡ so_far ++ left.statements
+  pub same : left.ending ≡ ending
+  pub blocks_are : map position_of (reverse blocks) ≡ blocks_after so_far
+
+pub reading_no_block : (left : Remaining) → IsReadingBlocks left.statements left.ending left []
+reading_no_block left =
+    record { so_far = []; whole = refl; same = refl; blocks_are = sym blocks_none }
+
+pub reading_block_on : {all : List PlainStatement} {ending : Option PlainFault} {old : Remaining}
+    {blocks : List Token} → IsReadingBlocks all ending old blocks → (new : Remaining)
+    (s : PlainStatement) (more : List Token) → ReadsOn old true s new
+    → map position_of (reverse more)
+    ≡ positions_after s.kind (s.first.file, s.first.at) (map position_of (reverse blocks))
+    → IsReadingBlocks all ending new more
+reading_block_on r new s more on are = record {
+  so_far = r.so_far ++ s ∷ [];
+  whole = r.whole ∙ ap (λ ss. r.so_far ++ ss) on.0
+      ∙ sym (append_assoc r.so_far (s ∷ []) new.statements);
+  same = on.1 ∙ r.same;
+  blocks_are = are
+      ∙ ap (positions_after s.kind (s.first.file, s.first.at)) r.blocks_are
+      ∙ sym (blocks_more r.so_far s);
+}
+
+-- once none is left, the last block is the innermost that is open, if one is
+pub open_block_there : {all : List PlainStatement} {ending : Option PlainFault} {left : Remaining}
+    {blocks : List Token} (r : IsReadingBlocks all ending left blocks) → left.statements ≡ []
+    → AreBalanced all → (rest : List Token) (block : Option Token)
+    → MatchOption block (blocks ≡ []) (λ t. blocks ≡ rest ++ t ∷ []) → IsOpenBlock all block
+open_block_there {all} {ending} {left} {blocks} r none balanced rest None is =
+    let whole : r.so_far ≡ all = sym (r.whole ∙ ap (λ ss. r.so_far ++ ss) none ∙ append-nil r.so_far) in
+    none_there all balanced
+    (ap blocks_after (sym whole) ∙ sym r.blocks_are
+    ∙ ap (λ (ts : List Token). map position_of (reverse ts)) is)
+open_block_there {all} {ending} {left} {blocks} r none balanced rest (Some t) is =
+    let whole : r.so_far ≡ all = sym (r.whole ∙ ap (λ ss. r.so_far ++ ss) none ∙ append-nil r.so_far) in
+    innermost_there all (position_of t) (map position_of (reverse rest)) balanced
+    (ap blocks_after (sym whole) ∙ sym r.blocks_are
+    ∙ ap (λ (ts : List Token). map position_of (reverse ts)) is ∙ block_pushed rest t)
+
+-- what is told of it
+pub opened_there : (files : List PlainFile) (statements : List PlainStatement)
+    (block : Option Token) → IsOpenBlock statements block
+    → AreBlocksOpened files statements (blocks_opened files (option_map plain_token block))
+opened_there files statements None closed = inl (closed, refl)
+opened_there files statements (Some t) (outer, opening, inner, file, at) =
+    inr (outer, opening, inner, rw (file, at) refl)
+
+-- what is taken off the end of the blocks
+pub popped : (block : Option Token) (blocks rest : List Token) (m n : ℕ) → n ≡ length blocks
+    → blocks ≡ rest ++ option_to_list block
+    → MatchOption block ((n ≡ 0) × (m ≡ 0)) (λ t. m + 1 ≡ n)
+    → MatchOption block (blocks ≡ []) (λ t. blocks ≡ rest ++ t ∷ [])
+popped None blocks rest m n long is none =
+    let (e, _) = none in empty_list blocks (let l = long in omega arith)
+popped (Some t) blocks rest m n long is some = is

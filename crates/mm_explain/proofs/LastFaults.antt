@@ -6,9 +6,11 @@ use Rattle.std.proofs.Common.{Result, Ok, Err, OnOk, option_map, ◌⊎◌, Bor}
 use Rattle.std.proofs.Common.{◌∙◌, subst, arith, length-append, append_assoc, append-nil}
 use Rattle.std.proofs.lemmas.List.{map-append}
 use Rattle.std.proofs.lemmas.List.Elements.{filter-append}
+use Rattle.std.proofs.lemmas.Grind.{flat_map-append}
 use Rattle.mm_text.specs.declared.fault.TextRule.{TextRule}
-use Rattle.mm_text.specs.declared.fault.TextRule.TheVariants.{S6}
-use Rattle.mm_base.specs.Token.{PlainToken}
+use Rattle.mm_text.specs.declared.fault.TextRule.TheVariants.{S6, X6}
+use Rattle.mm_base.specs.Token.{PlainToken, plain_token}
+use Rattle.mm_base.specs.declared.token.Token.{Token}
 use Rattle.mm_base.specs.Statement.{PlainStatement}
 use Rattle.mm_base.specs.Blocks.{is_closing}
 use Rattle.mm_text.specs.Files.{PlainFile}
@@ -24,11 +26,13 @@ use Rattle.mm_rules.specs.declared.rule.Rule.TheVariants as rules
 use Rattle.mm_facts.specs.Explained.{Detail, token_at_fault, detail_text, details_text}
 use Rattle.mm_explain.specs.Near.{IsLabelOf}
 use Rattle.mm_rules.specs.Places.{bytes_of}
-use Rattle.mm_explain.specs.TextFacts.{AreOrigins, AreTextFacts, blocks_closed, closing_tokens}
+use Rattle.mm_explain.specs.TextFacts.{AreBegun, AreOrigins, AreTextFacts, blocks_closed}
+use Rattle.mm_explain.specs.TextFacts.{blocks_opened, closing_tokens}
 use Rattle.mm_explain.specs.TextFacts.{files_up_to, last_of, places_begun, token_from, unclosed_in}
-use Rattle.mm_explain.specs.Mirror.Last.{EndsRun, IsBegin, IsReading, IsSearching}
+use Rattle.mm_explain.specs.Mirror.Last.{EndsRun, IsBegin, IsOpenBlock, IsReading, IsSearching}
 use Rattle.mm_explain.specs.Mirror.Last.{ReadsOn, TellsOrigins}
 use Rattle.mm_facts.proofs.NearLabels.{name_kept}
+use Rattle.mm_explain.proofs.InnermostBlocks.{opened_there}
 use Rattle.mm_verdict.proofs.Verdicts.FaultLists.{meant_more}
 
 -- ==== what ends the run
@@ -157,13 +161,25 @@ TellsAll files refusal old new =
 
 -- a fault of another rule stands in what isn't closed before it
 other_origins : (files : List PlainFile) (statements : List PlainStatement) (fault : PlainFault)
-    (rule : TextRule) (details : List Detail) → ¬ (rule ≡ S6)
-    → (earlier : List PlainStatement) × (ending : Option PlainFault)
-    × Reads (files_up_to files fault.file fault.at) earlier ending
-    × (details ≡ places_begun files fault.file (unclosed_in fault.file ending))
-    → AreOrigins files statements fault rule details
-other_origins files statements fault S6 details block e = absurd (block refl)
-other_origins files statements fault rule details block e = e
+    (rule : TextRule) (details : List Detail) → ¬ (rule ≡ S6) → ¬ (rule ≡ X6)
+    → AreBegun files fault details → AreOrigins files statements fault rule details
+other_origins files statements fault S6 details closed opened e = absurd (closed refl)
+other_origins files statements fault X6 details closed opened e = absurd (opened refl)
+other_origins files statements fault rule details closed opened e = e
+
+-- what isn't closed before the fault that is refused
+begun_there : (files : List PlainFile) (refusal : PlainRefusal) (fault : PlainFault)
+    (begin : Option ℕ) → refusal ≡ text_refusal files fault
+    → IsBegin files refusal.file refusal.at begin
+    → AreBegun files fault (places_begun files refusal.file begin)
+begun_there files refusal fault begin refused begins = (
+  begins.earlier,
+  begins.ending,
+  subst (λ (p : PlainRefusal). Reads (files_up_to files p.file p.at) begins.earlier
+      begins.ending) refused begins.reads,
+  ap (places_begun files refusal.file) begins.same
+      ∙ ap (λ (p : PlainRefusal). places_begun files p.file (unclosed_in p.file begins.ending)) refused,
+)
 
 module _ {T E : Type 0} (files : List PlainFile) (refusal : PlainRefusal) (old new : List ℕ) where
   -- for S6 the last block that is closed
@@ -186,28 +202,52 @@ module _ {T E : Type 0} (files : List PlainFile) (refusal : PlainRefusal) (old n
         put = put;
       }
 
-  -- else what isn't closed before it
-  pub begin_told : (r : Result T E) (begin : Option ℕ) → ¬ (refusal.rule ≡ rules.Text S6)
+  -- for X6 what isn't closed before it, and the innermost open block
+  pub opened_told : (r : Result T E) (begin : Option ℕ) (block : Option Token)
+      (middle : List ℕ) → refusal.rule ≡ rules.Text X6
       → IsBegin files refusal.file refusal.at begin
-      → OnOk r (new ≡ old ++ details_text (places_begun files refusal.file begin))
+      → ((statements : List PlainStatement) (ending : Option PlainFault)
+      → Reads files statements ending → IsOpenBlock statements block)
+      → middle ≡ old ++ details_text (places_begun files refusal.file begin)
+      → OnOk r (new ≡ middle ++ details_text (blocks_opened files (option_map plain_token block)))
       → OnOk r (TellsAll files refusal old new)
-  begin_told (Err e) begin block begins put = tt
-  begin_told (Ok v) begin block begins put = λ statements fault reads refused.
-      let rule : refusal.rule ≡ rules.Text fault.rule = ap (λ (p : PlainRefusal). p.rule) refused in
+  opened_told (Err e) begin block middle is begins there first put = tt
+  opened_told (Ok v) begin block middle is begins there first put =
+      λ statements fault reads refused.
+      let told : rules.Text fault.rule ≡ rules.Text X6 =
+      ap (λ (p : PlainRefusal). p.rule) (sym refused) ∙ is in
+      let rule : fault.rule ≡ X6 = cc told in
+      let begun = places_begun files refusal.file begin in
+      let opened = blocks_opened files (option_map plain_token block) in
       record {
-        details = places_begun files fault.file (unclosed_in fault.file begins.ending);
-        begun = other_origins files statements fault fault.rule _
-            (λ is. block (rule ∙ ap rules.Text is)) (
-              begins.earlier,
-              begins.ending,
-              subst (λ (p : PlainRefusal). Reads (files_up_to files p.file p.at) begins.earlier
-                  begins.ending) refused begins.reads,
+        details = begun ++ opened;
+        begun = subst (λ (t : TextRule). AreOrigins files statements fault t (begun ++ opened))
+            (sym rule) (
+              begun,
+              opened,
+              begun_there files refusal fault begin refused begins,
+              opened_there files statements block (there statements (Some fault) reads),
               refl,
             );
-        put = put
-            ∙ ap (λ b. old ++ details_text (places_begun files refusal.file b)) begins.same
-            ∙ ap (λ (p : PlainRefusal). old
-            ++ details_text (places_begun files p.file (unclosed_in p.file begins.ending))) refused;
+        put = put ∙ ap (λ m. m ++ details_text opened) first
+            ∙ append_assoc old (details_text begun) (details_text opened)
+            ∙ ap (λ t. old ++ t) (sym (flat_map-append detail_text begun opened));
+      }
+
+  -- else what isn't closed before it
+  pub begin_told : (r : Result T E) (begin : Option ℕ) → ¬ (refusal.rule ≡ rules.Text S6)
+      → ¬ (refusal.rule ≡ rules.Text X6) → IsBegin files refusal.file refusal.at begin
+      → OnOk r (new ≡ old ++ details_text (places_begun files refusal.file begin))
+      → OnOk r (TellsAll files refusal old new)
+  begin_told (Err e) begin closed opened begins put = tt
+  begin_told (Ok v) begin closed opened begins put = λ statements fault reads refused.
+      let rule : refusal.rule ≡ rules.Text fault.rule = ap (λ (p : PlainRefusal). p.rule) refused in
+      record {
+        details = places_begun files refusal.file begin;
+        begun = other_origins files statements fault fault.rule _
+            (λ is. closed (rule ∙ ap rules.Text is)) (λ is. opened (rule ∙ ap rules.Text is))
+            (begun_there files refusal fault begin refused begins);
+        put = put;
       }
 
 -- the token, and then where what it stands in began

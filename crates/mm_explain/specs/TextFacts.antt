@@ -1,21 +1,22 @@
--- What explains a fault of the text: the token at fault, and a place, where one is told: for S6 where
+-- What explains a fault of the text: the token at fault, and places, where some are told: for S6 where
 -- the last block is closed; else where the comment, the inclusion or the statement began in which
--- the token stands. The files up to the token tell that: they end in what isn't closed there. The
--- facts are this project's own.
+-- the token stands. The files up to the token tell that: they end in what isn't closed there. For
+-- X6 it is also told where the innermost open block begins. The facts are this project's own.
 use Rattle.std.specs.Prelude.{◌≡◌, ℕ, ◌-◌, ◌==◌, ◌&&◌, if◌then◌else◌, List, ◌∷◌, map, not, filter}
 use Rattle.std.specs.Prelude.{length, drop, take, slice_get, take_while, Bool, true, false, Option}
-use Rattle.std.specs.Prelude.{Some, None}
+use Rattle.std.specs.Prelude.{Some, None, [], ◌++◌, ◌⊎◌}
 use Rattle.std.specs.Option.{option_to_list}
 use Rattle.mm_text.specs.declared.fault.TextRule.{TextRule}
-use Rattle.mm_text.specs.declared.fault.TextRule.TheVariants.{X2, X5, X8, S6}
+use Rattle.mm_text.specs.declared.fault.TextRule.TheVariants.{X2, X5, X6, X8, S6}
 use Rattle.mm_base.specs.Token.{PlainToken, is_space}
 use Rattle.mm_base.specs.Statement.{PlainStatement}
-use Rattle.mm_base.specs.Blocks.{is_closing}
+use Rattle.mm_base.specs.Blocks.{is_closing, AreClosed, IsInnermost}
 use Rattle.mm_text.specs.Files.{PlainFile}
 use Rattle.mm_text.specs.Reading.{PlainFault, Reads}
 use Rattle.mm_text.specs.Replaced.{with_bytes}
 use Rattle.mm_rules.specs.Verdict.{PlainRefusal, text_refusal}
-use Rattle.mm_facts.specs.Explained.{Detail, token_at_fault, begun_at, last_closed_at}
+use Rattle.mm_facts.specs.Explained.{Detail, token_at_fault, begun_at, block_opened}
+use Rattle.mm_facts.specs.Explained.{last_closed_at}
 use Rattle.mm_rules.specs.Places.{bytes_of, place_of, place_text, token_place}
 
 -- the token that begins at a position: the bytes from there up to the next white space
@@ -57,17 +58,36 @@ places_begun files file begin =
 abbrev pub blocks_closed : List PlainFile → (closed : Option PlainToken) → List Detail
 blocks_closed files closed = map (λ t. last_closed_at (token_place files t)) (option_to_list closed)
 
--- The facts of a place: for S6 where the last block is closed; else where the comment, the inclusion
--- or the statement began in which the fault stands, if it stands in one: that isn't closed in the
--- files up to the fault.
+-- where an open block begins, if there is one
+abbrev pub blocks_opened : List PlainFile → (opening : Option PlainToken) → List Detail
+blocks_opened files opening = map (λ t. block_opened (token_place files t)) (option_to_list opening)
+
+-- where the innermost block begins that is open after these statements, if one is
+abbrev pub AreBlocksOpened : List PlainFile → List PlainStatement → List Detail → Type 0
+AreBlocksOpened files statements details =
+    (AreClosed statements × (details ≡ []))
+    ⊎ ((outer : List PlainStatement) × (opening : PlainStatement)
+    × IsInnermost statements outer opening
+    × (details ≡ block_opened (token_place files opening.first) ∷ []))
+
+-- where the comment, the inclusion or the statement began in which the fault stands, if it stands in
+-- one: that isn't closed in the files up to the fault
+abbrev pub AreBegun : List PlainFile → PlainFault → List Detail → Type 0
+AreBegun files fault details =
+    (earlier : List PlainStatement) × (ending : Option PlainFault)
+    × Reads (files_up_to files fault.file fault.at) earlier ending
+    × (details ≡ places_begun files fault.file (unclosed_in fault.file ending))
+
+-- The facts of places: for S6 where the last block is closed; else where what the fault stands in
+-- began, and for X6 then where the innermost open block begins.
 abbrev pub AreOrigins : List PlainFile → List PlainStatement → PlainFault → TextRule → List Detail
     → Type 0
 AreOrigins files statements fault S6 details =
     details ≡ blocks_closed files (last_of (closing_tokens statements))
-AreOrigins files statements fault rule details =
-    (earlier : List PlainStatement) × (ending : Option PlainFault)
-    × Reads (files_up_to files fault.file fault.at) earlier ending
-    × (details ≡ places_begun files fault.file (unclosed_in fault.file ending))
+AreOrigins files statements fault X6 details =
+    (begun : List Detail) × (opened : List Detail) × AreBegun files fault begun
+    × AreBlocksOpened files statements opened × (details ≡ begun ++ opened)
+AreOrigins files statements fault rule details = AreBegun files fault details
 
 -- The facts that explain the refusal for the fault of the text, in order, and the position that is
 -- told.

@@ -21,7 +21,10 @@ use mm_rules::{Refusal, Rule};
 use std::alloc::{AllocError, Global};
 
 /// The blocks that are open once a statement more is read, the innermost last.
-fn pass_block<'a>(blocks: &mut Vec<Token<'a>>, statement: &Statement<'a>) -> Result<(), AllocError>
+pub(crate) fn pass_block<'a>(
+    blocks: &mut Vec<Token<'a>>,
+    statement: &Statement<'a>,
+) -> Result<(), AllocError>
     ensures { OnOk result (map position_of (reverse blocks.new.items)
         ≡ positions_after statement.now.kind (position_of statement.now.first)
         (map position_of (reverse blocks.old.items))) }

@@ -11,9 +11,10 @@ ghost use Rattle.mm_text.specs.Reading.{PlainFault, Reads};
 ghost use Rattle.mm_rules.specs.Answer.{plain_refusal};
 ghost use Rattle.mm_facts.specs.Explained.{Detail, details_text};
 ghost use Rattle.mm_explain.specs.Mirror.Last.{IsBegin, IsTextRefusal, ReadsOn, TellsOrigins};
-ghost use Rattle.mm_explain.specs.Mirror.Last.{is_of_text};
+ghost use Rattle.mm_explain.specs.Mirror.Last.{IsOpenBlock, is_of_text};
 ghost use Rattle.mm_rules.specs.declared.rule.Rule.TheVariants.{Text};
 ghost use Rattle.mm_explain.specs.TextFacts.{AreTextFacts, blocks_closed, closing_tokens, last_of};
+ghost use Rattle.mm_explain.specs.TextFacts.{blocks_opened};
 ghost use Rattle.mm_explain.specs.TextFacts.{files_up_to as files_up_to_of, places_begun};
 ghost use Rattle.mm_explain.specs.TextFacts.{is_of_unclosed as is_of_unclosed_at};
 ghost use Rattle.mm_explain.specs.TextFacts.{unclosed_in as unclosed_in_of};
@@ -21,9 +22,10 @@ ghost use Rattle.mm_explain.specs.TextFacts.{token_from as token_from_of};
 ghost use Rattle.mm_rules.specs.Verdict.{CanBeRead, text_refusal};
 
 use crate::breach::reader;
+use crate::collision::pass_block;
 use crate::placed::{push_begun, push_last_closed};
 use mm_base::{File, Kind, Seed, Statement, Token};
-use mm_facts::push_token;
+use mm_facts::{push_block as push_opening, push_token};
 use mm_rules::{Refusal, Rule, bytes_before, bytes_from, bytes_of};
 use mm_text::{Statements, TextFault, TextRule};
 use mm_verdict::is_space;
@@ -198,6 +200,27 @@ fn begin_before<'a>(
     unclosed_in(&mut statements, &mut statement, file)
 }
 
+/// The token of the innermost block of the files that is open where their text ends, or its fault
+/// comes, if one is open there.
+fn open_block<'a>(
+    alloc: Global,
+    seed: Seed,
+    files: &'a [File<'a>],
+) -> Result<Option<Token<'a>>, AllocError>
+    requires { CanBeRead (map plain_file files.now) }
+    ensures { IfOk result (λ block. (statements : List PlainStatement)
+        (ending : Option PlainFault) → Reads (map plain_file files.now) statements ending
+        → IsOpenBlock statements block) }
+{
+    let mut statements = reader(alloc, seed, files)?;
+    let mut statement = Statement::empty(alloc);
+    let mut blocks = Vec::new(alloc);
+    while next(&mut statements, &mut statement)? {
+        pass_block(&mut blocks, &statement)?;
+    }
+    Ok(blocks.pop())
+}
+
 /// Where what isn't closed in a file began, if such is there.
 fn push_begin(
     out: &mut Vec<u8>,
@@ -210,6 +233,18 @@ fn push_begin(
 {
     match begin {
         Some(at) => push_begun(out, files, file, at),
+        None => Ok(()),
+    }
+}
+
+/// Where an open block begins, if there is one.
+fn push_opened(out: &mut Vec<u8>, files: &[File], block: Option<Token>) -> Result<(), AllocError>
+    ensures { OnOk result (out.new.items ≡ out.old.items
+        ++ details_text (blocks_opened (map plain_file files.now)
+        (option_map plain_token block.entry))) }
+{
+    match block {
+        Some(token) => push_opening(out, files, token),
         None => Ok(()),
     }
 }
@@ -256,6 +291,12 @@ fn push_origins<'a>(
         TextRule::S6 => {
             let closed = last_closed(alloc, seed, files)?;
             push_block(out, files, closed)
+        }
+        TextRule::X6 => {
+            let begin = begin_before(alloc, seed, files, refusal.file, refusal.at)?;
+            push_begin(out, files, refusal.file, begin)?;
+            let block = open_block(alloc, seed, files)?;
+            push_opened(out, files, block)
         }
         _ => {
             let begin = begin_before(alloc, seed, files, refusal.file, refusal.at)?;

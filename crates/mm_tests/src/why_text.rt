@@ -7,7 +7,7 @@ use mm_check::WholeQuestion;
 use mm_step::Profile::Lenient;
 
 /// Databases with a fault of the text.
-pub(crate) const TEXTS: [(Command<'static>, Case); 12] = [
+pub(crate) const TEXTS: [(Command<'static>, Case); 14] = [
     (
         Whole {
             profile: Lenient,
@@ -54,6 +54,39 @@ pub(crate) const TEXTS: [(Command<'static>, Case); 12] = [
             reply: b"f.mm:2:4: X3: a token in a comment holds $( or $)
   token: a$)
   begun: f.mm:2:1
+1 fault
+",
+            status: 1,
+        },
+    ),
+    (
+        Whole {
+            profile: Lenient,
+            question: WholeQuestion::Why,
+        },
+        Case {
+            name: "an inclusion in a block in another one",
+            files: &[(b"f.mm", &[Text(b"${ $} ${\n ${ $[ a.mm $] $}\n")])],
+            reply: b"f.mm:2:5: X6: $[ stands in a block or in a statement
+  token: $[
+  in the block: f.mm:2:2
+1 fault
+",
+            status: 1,
+        },
+    ),
+    (
+        Whole {
+            profile: Lenient,
+            question: WholeQuestion::Why,
+        },
+        Case {
+            name: "an inclusion in a statement in a block",
+            files: &[(b"f.mm", &[Text(b"${ ${ $}\np $a $[ a.mm $]\n")])],
+            reply: b"f.mm:2:6: X6: $[ stands in a block or in a statement, in p
+  token: $[
+  begun: f.mm:2:1
+  in the block: f.mm:1:1
 1 fault
 ",
             status: 1,

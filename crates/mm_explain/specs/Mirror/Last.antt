@@ -1,9 +1,11 @@
 -- What the code knows of the fault that ends the run before it explains it. This file mirrors the
 -- code, and is cited by private contracts alone.
-use Rattle.std.specs.Prelude.{◌≡◌, ℕ, List, [], ◌∷◌, ◌++◌, Bool, true, false, Option, Some, ◌⊎◌}
+use Rattle.std.specs.Prelude.{◌≡◌, ℕ, List, [], ◌∷◌, ◌++◌, Bool, true, false, Option, Some, None, ◌⊎◌}
 use Rattle.std.specs.Prelude.{IfSome, map}
 use Rattle.std.specs.Borrow.{Bor}
+use Rattle.mm_base.specs.Blocks.{AreClosed, IsInnermost}
 use Rattle.mm_base.specs.Token.{PlainToken}
+use Rattle.mm_base.specs.declared.token.Token.{Token}
 use Rattle.mm_base.specs.Statement.{PlainStatement}
 use Rattle.mm_text.specs.Files.{PlainFile}
 use Rattle.mm_text.specs.Reading.{PlainFault, Reads}
@@ -48,6 +50,14 @@ pub record TellsOrigins (files : List PlainFile) (statements : List PlainStateme
   pub details : List Detail
   pub begun : AreOrigins files statements fault fault.rule details
   pub put : new ≡ old ++ details_text details
+
+-- the token is that of the `${` of the innermost block that is open after these statements, if one is
+abbrev pub IsOpenBlock : List PlainStatement → Option Token → Type 0
+IsOpenBlock statements None = AreClosed statements
+IsOpenBlock statements (Some t) =
+    (outer : List PlainStatement) × (opening : PlainStatement)
+    × IsInnermost statements outer opening
+    × (t.file ≡ opening.first.file) × (t.at ≡ opening.first.at)
 
 -- ---- the second reading
 
