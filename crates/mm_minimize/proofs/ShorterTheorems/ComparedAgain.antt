@@ -22,7 +22,7 @@ use Rattle.mm_minimize.specs.Mirror.Shortening.{IsFound, IsProvedAnew}
 use Rattle.mm_verdict.specs.Mirror.Theorems.{AreProvedSteps, AreStepsOf}
 use Rattle.mm_render.proofs.ToldProofs.ToldTrees.{told_of_tree}
 use Rattle.mm_verdict.proofs.Verdicts.AcceptedStatements.{same_reading}
-use Rattle.mm_verdict.proofs.Questions.TheoremsAgain.{before, s}
+use Rattle.mm_verdict.proofs.Questions.TheoremsAgain.{s}
 
 -- fewer statements are left
 pub fewer_left : (files : List PlainFile) (taken between : List PlainStatement) (id : ℕ)
