@@ -93,6 +93,7 @@ stages_of() {
     fi
     stage "$kind: the replies of the documents" docs/make-examples --run "$2"
     stage "$kind: the tutorial shows what is printed" scripts/tutorial "$2"
+    stage "$kind: hostile files cost no more than they may" bench/hostile --program "$2" --gate
     if [ "$kind" = plain ]; then
         stage 'plain: what is installed and released' scripts/installed.sh "$2"
     else
