@@ -280,6 +280,11 @@ fn explained_faults(rt: HostRuntime) -> Result<(), Fail> {
 }
 
 #[test]
+fn explained_faults_in_order(rt: HostRuntime) -> Result<(), Fail> {
+    compare_commands(&rt, rt.alloc(), &why::ORDERED)
+}
+
+#[test]
 fn explained_faults_with_hypotheses(rt: HostRuntime) -> Result<(), Fail> {
     compare_commands(&rt, rt.alloc(), &why_hypotheses::HYPOTHESES)
 }

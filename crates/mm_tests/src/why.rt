@@ -8,7 +8,7 @@ use mm_check::WholeQuestion;
 use mm_step::Profile::{Lenient, Strict};
 
 /// Databases with several faults, with one, and with none.
-pub(crate) const EXPLAINED: [(Command<'static>, Case); 16] = [
+pub(crate) const EXPLAINED: [(Command<'static>, Case); 13] = [
     (
         Whole {
             profile: Lenient,
@@ -84,49 +84,6 @@ f.mm:14:6: M2: a symbol of a $c was declared before, or stands twice in it
   token: a
   declared: f.mm:1:4
 13 faults
-",
-            status: 1,
-        },
-    ),
-    (
-        Whole {
-            profile: Strict,
-            question: WholeQuestion::Why,
-        },
-        Case {
-            name: "eleven faulty proofs, under the strict profile",
-            files: &[(
-                b"f.mm",
-                &[
-                    Text(b"$c a $.\n"),
-                    Text(b"p01 $p a $= nope $.\np02 $p a $= nope $.\np03 $p a $= nope $.\n"),
-                    Text(b"p04 $p a $= nope $.\np05 $p a $= nope $.\np06 $p a $= nope $.\n"),
-                    Text(b"p07 $p a $= nope $.\np08 $p a $= nope $.\np09 $p a $= nope $.\n"),
-                    Text(b"p10 $p a $= nope $.\np11 $p a $= nope $.\n"),
-                ],
-            )],
-            reply: b"f.mm:2:13: P2: no earlier statement has the label, in the proof of p01
-  token: nope
-f.mm:3:13: P2: no earlier statement has the label, in the proof of p02
-  token: nope
-f.mm:4:13: P2: no earlier statement has the label, in the proof of p03
-  token: nope
-f.mm:5:13: P2: no earlier statement has the label, in the proof of p04
-  token: nope
-f.mm:6:13: P2: no earlier statement has the label, in the proof of p05
-  token: nope
-f.mm:7:13: P2: no earlier statement has the label, in the proof of p06
-  token: nope
-f.mm:8:13: P2: no earlier statement has the label, in the proof of p07
-  token: nope
-f.mm:9:13: P2: no earlier statement has the label, in the proof of p08
-  token: nope
-f.mm:10:13: P2: no earlier statement has the label, in the proof of p09
-  token: nope
-f.mm:11:13: P2: no earlier statement has the label, in the proof of p10
-  token: nope
-and 1 more, which mm faults --strict lists
-11 faults
 ",
             status: 1,
         },
@@ -212,75 +169,6 @@ and 1 more, which mm faults --strict lists
   the whole proof lacks: $d p s $.
   the whole proof lacks: $d q r $.
   the whole proof lacks: $d q s $.
-1 fault
-",
-            status: 1,
-        },
-    ),
-    (
-        Whole {
-            profile: Lenient,
-            question: WholeQuestion::Why,
-        },
-        Case {
-            name: "a pair whose $f stand in the other order than its variables were declared",
-            files: &[(
-                b"f.mm",
-                &[
-                    Text(b"$c set |- R $. $v x y $.\nvy $f set y $. vx $f set x $.\n"),
-                    Text(b"${ $d x y $. ax $a |- x R y $. $}\n"),
-                    Text(b"q $p |- x R y $= vy vx ax $.\n"),
-                ],
-            )],
-            reply: b"f.mm:4:24: P12: variables aren't stated to be distinct, in the proof of q, at step 3
-  step: ax
-  it asks $d x y $., where x is
-    x
-  and y is
-    y
-  this step lacks: $d x y $.
-  the whole proof lacks: $d x y $.
-1 fault
-",
-            status: 1,
-        },
-    ),
-    (
-        Whole {
-            profile: Lenient,
-            question: WholeQuestion::Why,
-        },
-        Case {
-            name: "three pairs, of which a variable was first declared in a closed block",
-            files: &[(
-                b"f.mm",
-                &[
-                    Text(b"$c set |- R $. ${ $v z $. $} $v x y z u $.\n"),
-                    Text(b"vx $f set x $. vy $f set y $. vz $f set z $. vu $f set u $.\n"),
-                    Text(b"${ $d x y z $. ax $a |- x R y R z $. $}\n"),
-                    Text(b"q $p |- x R y R u $= vx vy vu ax $.\n"),
-                ],
-            )],
-            reply: b"f.mm:4:31: P12: variables aren't stated to be distinct, in the proof of q, at step 4
-  step: ax
-  it asks $d z x $., where z is
-    u
-  and x is
-    x
-  this step lacks: $d x u $.
-  it asks $d z y $., where z is
-    u
-  and y is
-    y
-  this step lacks: $d y u $.
-  it asks $d x y $., where x is
-    x
-  and y is
-    y
-  this step lacks: $d x y $.
-  the whole proof lacks: $d x y $.
-  the whole proof lacks: $d x u $.
-  the whole proof lacks: $d y u $.
 1 fault
 ",
             status: 1,
@@ -542,6 +430,122 @@ f.mm:8:11: P2: no earlier statement has the label, in the proof of t
             ],
             reply: b"load F2\n",
             status: 4,
+        },
+    ),
+];
+
+/// The order in which pairs are told, and the line on what isn't explained under the strict profile.
+pub(crate) const ORDERED: [(Command<'static>, Case); 3] = [
+    (
+        Whole {
+            profile: Strict,
+            question: WholeQuestion::Why,
+        },
+        Case {
+            name: "eleven faulty proofs, under the strict profile",
+            files: &[(
+                b"f.mm",
+                &[
+                    Text(b"$c a $.\n"),
+                    Text(b"p01 $p a $= nope $.\np02 $p a $= nope $.\np03 $p a $= nope $.\n"),
+                    Text(b"p04 $p a $= nope $.\np05 $p a $= nope $.\np06 $p a $= nope $.\n"),
+                    Text(b"p07 $p a $= nope $.\np08 $p a $= nope $.\np09 $p a $= nope $.\n"),
+                    Text(b"p10 $p a $= nope $.\np11 $p a $= nope $.\n"),
+                ],
+            )],
+            reply: b"f.mm:2:13: P2: no earlier statement has the label, in the proof of p01
+  token: nope
+f.mm:3:13: P2: no earlier statement has the label, in the proof of p02
+  token: nope
+f.mm:4:13: P2: no earlier statement has the label, in the proof of p03
+  token: nope
+f.mm:5:13: P2: no earlier statement has the label, in the proof of p04
+  token: nope
+f.mm:6:13: P2: no earlier statement has the label, in the proof of p05
+  token: nope
+f.mm:7:13: P2: no earlier statement has the label, in the proof of p06
+  token: nope
+f.mm:8:13: P2: no earlier statement has the label, in the proof of p07
+  token: nope
+f.mm:9:13: P2: no earlier statement has the label, in the proof of p08
+  token: nope
+f.mm:10:13: P2: no earlier statement has the label, in the proof of p09
+  token: nope
+f.mm:11:13: P2: no earlier statement has the label, in the proof of p10
+  token: nope
+and 1 more, which mm faults --strict lists
+11 faults
+",
+            status: 1,
+        },
+    ),
+    (
+        Whole {
+            profile: Lenient,
+            question: WholeQuestion::Why,
+        },
+        Case {
+            name: "a pair whose $f stand in the other order than its variables were declared",
+            files: &[(
+                b"f.mm",
+                &[
+                    Text(b"$c set |- R $. $v x y $.\nvy $f set y $. vx $f set x $.\n"),
+                    Text(b"${ $d x y $. ax $a |- x R y $. $}\n"),
+                    Text(b"q $p |- x R y $= vy vx ax $.\n"),
+                ],
+            )],
+            reply: b"f.mm:4:24: P12: variables aren't stated to be distinct, in the proof of q, at step 3
+  step: ax
+  it asks $d x y $., where x is
+    x
+  and y is
+    y
+  this step lacks: $d x y $.
+  the whole proof lacks: $d x y $.
+1 fault
+",
+            status: 1,
+        },
+    ),
+    (
+        Whole {
+            profile: Lenient,
+            question: WholeQuestion::Why,
+        },
+        Case {
+            name: "three pairs, of which a variable was first declared in a closed block",
+            files: &[(
+                b"f.mm",
+                &[
+                    Text(b"$c set |- R $. ${ $v z $. $} $v x y z u $.\n"),
+                    Text(b"vx $f set x $. vy $f set y $. vz $f set z $. vu $f set u $.\n"),
+                    Text(b"${ $d x y z $. ax $a |- x R y R z $. $}\n"),
+                    Text(b"q $p |- x R y R u $= vx vy vu ax $.\n"),
+                ],
+            )],
+            reply: b"f.mm:4:31: P12: variables aren't stated to be distinct, in the proof of q, at step 4
+  step: ax
+  it asks $d z x $., where z is
+    u
+  and x is
+    x
+  this step lacks: $d x u $.
+  it asks $d z y $., where z is
+    u
+  and y is
+    y
+  this step lacks: $d y u $.
+  it asks $d x y $., where x is
+    x
+  and y is
+    y
+  this step lacks: $d x y $.
+  the whole proof lacks: $d x y $.
+  the whole proof lacks: $d x u $.
+  the whole proof lacks: $d y u $.
+1 fault
+",
+            status: 1,
         },
     ),
 ];
