@@ -360,6 +360,11 @@ REASONS = {
     ("distinct", "show"): "as `check`",
     ("distinct", "statement"): "as `check`; and the reply has a line for each pair",
     ("distinct", "axioms"): "as `check`",
+    ("long_values", "why"): "keeps the expressions of all steps up to the fault; those of the step "
+                            "at fault would do",
+    ("dropped", "why"): "as `why` of long_values",
+    ("growing_values", "show"): "keeps the expressions of all steps; those of the steps that are "
+                                "shown would do",
 }
 
 CASES = [
