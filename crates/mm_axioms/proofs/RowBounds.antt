@@ -13,31 +13,9 @@ use Rattle.mm_axioms.specs.Mirror.Rows.{row_at, AreBounds, IsPadded, IsRowPut}
 
 -- ==== more bounds
 
-pub padded_none : (old : List ℕ) (bound : ℕ) → IsPadded old old (length old) bound
-padded_none old bound = record
-    { long = refl; kept = λ n less. refl; further = λ n more less. absurd (omega arith) }
-
 last_of : (xs : List ℕ) (x k : ℕ) → k ≡ length xs → get_or (xs ++ x ∷ []) k 0 ≡ x
 last_of xs x k e = ap (λ (n : ℕ). get_or (xs ++ x ∷ []) n 0)
     (let f : k ≡ length xs + 0 = omega arith in f) ∙ get_or-append-add xs (x ∷ []) 0 0
-
-pub padded_more : (old now next : List ℕ) (count bound : ℕ) → IsPadded old now count bound
-    → length old ≤ count → next ≡ now ++ bound ∷ [] → IsPadded old next (count + 1) bound
-padded_more old now next count bound h some e = record {
-  long = let l = h.long in let m = length-append now (bound ∷ []) in let k = ap length e in omega
-      arith;
-  kept = λ n less.
-      let l = h.long in
-      ap (λ (xs : List ℕ). get_or xs n 0) e ∙ get_or_append_left now (bound ∷ []) 0 n (omega arith)
-      ∙ h.kept n less;
-  further = λ n more less.
-      let l = h.long in
-      ap (λ (xs : List ℕ). get_or xs n 0) e ∙ elim (cases_eq n count) [
-        | inl last ↦ last_of now bound n (omega arith)
-        | inr other ↦ get_or_append_left now (bound ∷ []) 0 n (omega arith)
-            ∙ h.further n more (omega arith)
-      ];
-}
 
 -- ==== the rows
 

@@ -4,7 +4,7 @@ use Rattle.std.proofs.Common.{[], ◌∷◌, ◌++◌, length}
 use Rattle.std.proofs.Common.{get_or, slice_get, set, take, map, replicate, Contains, Some, true}
 use Rattle.std.proofs.Common.{false, ◌||◌, ◌⊎◌, nat_eq, eq-eqb, bit_or, w64}
 use Rattle.std.proofs.Common.{inl, inr, refl, sym, ap, subst, ◌∙◌, arith, Bool, if◌then◌else◌}
-use Rattle.std.proofs.Common.{append_assoc, append-nil}
+use Rattle.std.proofs.Common.{append_assoc}
 use Rattle.std.specs.Int.{bit_at}
 use Rattle.std.proofs.lemmas.Nat.Bits.{bit_at_or, bit_at-zero, bit_at_set_same, bit_at_set_other}
 use Rattle.std.proofs.lemmas.Nat.Bits.{bit_at-trailing_zeros}
@@ -276,15 +276,6 @@ pub record IsDrained (old now : List ℕ) (before after : List SetWord) (at : �
   pub above : (j : ℕ) → at ≤ j → get_or now j 0 ≡ get_or old j 0
   pub told : after ≡ before ++ words_from 0 (take at old)
 
-pub drained_none : (old : List ℕ) (before : List SetWord) → IsDrained old old before before 0
-drained_none old before = record {
-  same = refl;
-  below = λ j less. absurd (omega arith);
-  above = λ j more. refl;
-  told = sym
-      (append-nil before);
-}
-
 words_more : (i : ℕ) (ws : List ℕ) (at : ℕ) → at < length ws
     → words_from i (take (suc at) ws) ≡ words_from i (take at ws) ++ words_from (i + at)
     (get_or ws at 0 ∷ [])
@@ -429,16 +420,6 @@ noted_zero ws touched i h less = record {
         ∙ get_or-set_same ws i 0 0 less in omega arith
     | inr other ↦ subst (λ (n : ℕ). n < 2 ^ 64) (sym (get_or-set_other ws i j 0 0 other)) (h.bits j)
   ];
-}
-
--- where all words are 0 no mark is needed
-pub noted_none : (ws : List ℕ) (touched marks : List Bool) → IsNoted ws touched
-    → ((j : ℕ) → get_or ws j 0 ≡ 0) → length marks ≡ length touched → IsNoted ws marks
-noted_none ws touched marks h none same = record {
-  wide = same ∙ h.wide;
-  noted = λ j off. none j;
-  narrow = h.narrow;
-  bits = h.bits;
 }
 
 -- a block that isn't marked is passed

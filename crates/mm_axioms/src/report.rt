@@ -222,9 +222,10 @@ pub(crate) fn report_in(
 pub fn is_founded(tables: &Tables, incomplete: &[LabelId], theorem: LabelId, used: LabelId) -> bool
     requires axioms { AreRising (map (λ l. l.0) tables.now.axioms.items) }
     requires incomplete { AreRising (map (λ l. l.0) incomplete.now) }
-    ensures { IsTrue result → (statements : List Sentence) → (uses : List ProofUses)
+    ensures { (statements : List Sentence) → (uses : List ProofUses)
         → AreTables statements (map (λ l. l.0) incomplete.now) uses tables.now
-        → AreFounded statements (map (λ l. l.0) incomplete.now) uses theorem.0 used.0 }
+        → IsTrue result
+        ↔ AreFounded statements (map (λ l. l.0) incomplete.now) uses theorem.0 used.0 }
 {
     if !rests_no_further(&tables.axioms, &tables.axiom_rows, theorem, used) {
         return false;

@@ -202,15 +202,6 @@ no_number : (row : List SetWord) (c : ℕ) → row ≡ [] → ¬ (has_number row
 no_number [] c e h = absurd cc
 no_number (w ∷ row) c e h = absurd cc
 
-pub rows_start : (uses : List ProofUses) (numbers : List ℕ) (rows : PlainRows)
-    → length rows.bounds ≤ 1 → ((n : ℕ) → row_in rows n ≡ []) → AreRows uses numbers 0 rows
-rows_start uses numbers rows few none = record {
-  narrow = λ n c h. absurd (no_number (row_in rows n) c (none n) h);
-  below = λ i u within there. omega arith;
-  settled = λ c x at. settled_none uses x (λ n. has_number (row_in rows n) c)
-      (λ n h. no_number (row_in rows n) c (none n) h);
-}
-
 pub rows_narrow : (uses : List ProofUses) (numbers : List ℕ) (k : ℕ) (rows : PlainRows)
     → AreRows uses numbers k rows → AreNarrow rows (length numbers)
 rows_narrow uses numbers k rows h n c holds = let (x, at) = h.narrow n c holds in slice_get_within

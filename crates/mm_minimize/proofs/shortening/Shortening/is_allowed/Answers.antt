@@ -31,10 +31,10 @@ returns c = λ may statements index s reads at.
     let well : KeptWell now = subst KeptWell c.checked.view_is c.checked.invariant in
     let of : AreOf now statements = read_statements now statements well.origin reads in
     let incomplete : ids_in c.checked.inside.incomplete.items ≡ now.incomplete = ap (λ (v : Conclusion). v.incomplete) c.checked.view_is in
-    let founded = rw (c.deref.ensures.value, incomplete) at (c.is_founded.ensures c.if-not-is_founded.false) in
+    let founded = rw (c.deref.ensures.value, incomplete) at c.is_founded.ensures in
     newly_used now.files statements now c.args.theorem.0 c.args.used.0 s
     (all_meant now.profile statements of.accepted.obeyed) of.kept
-    (founded now.sentences now.uses c.requires.known.told)
+    ((founded now.sentences now.uses c.requires.known.told).0 c.if-not-is_founded.false)
     (λ place a there. (c.may_use.ensures now.files s a
     (c.remark-own.ensures statements index s reads at)
     (c.remark-other.ensures statements place a reads there)).0 may)
