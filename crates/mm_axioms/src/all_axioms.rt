@@ -1,4 +1,4 @@
-//! The text that tells what each theorem rests on, line by line.
+//! The lines of `mm axioms --all`: what each theorem depends on.
 
 ghost use Rattle.std.specs.Prelude.{◌≡◌, ◌<◌, ◌++◌, ◌∷◌, [], List, ℕ, map, length, OnOk, IfOk};
 ghost use Rattle.std.specs.Prelude.{IfSome, None, Contains, codes};

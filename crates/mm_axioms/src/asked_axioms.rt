@@ -1,4 +1,4 @@
-//! What is asked of a database about what its theorems rest on.
+//! The `axioms` and `users` questions of an accepted database.
 
 ghost use Rattle.mm_rules.specs.Answer.{IsKeptOf};
 ghost use Rattle.mm_axioms.specs.Mirror.Tables.{AreTables, IsOfKind, IsReportAt};

@@ -1,4 +1,4 @@
-//! What a theorem rests on.
+//! What a theorem depends on.
 
 ghost use Rattle.std.specs.Prelude.{◌≡◌, ◌↔◌, ◌⊎◌, ◌<◌, ◌≤◌, ℕ, map, length, slice_index_or};
 ghost use Rattle.std.specs.Prelude.{Contains, true, false, IfOk, IsTrue, Some, List};

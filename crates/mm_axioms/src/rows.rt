@@ -1,4 +1,4 @@
-//! For each theorem the set of those of some assertions that it rests on.
+//! For each theorem, which of the given assertions it depends on, as rows of bits.
 
 ghost use Rattle.std.specs.Prelude.{◌≡◌, ◌↔◌, ◌⊎◌, ◌<◌, ◌≤◌, ◌+◌, ◌*◌, ◌/◌, ◌++◌, [], ℕ, map};
 ghost use Rattle.std.specs.Prelude.{length, Contains, true, IfOk, OnOk, Some, slice_get, replicate};

@@ -1,4 +1,4 @@
-//! Who uses an assertion, and who rests on it.
+//! The users of an assertion: direct ones, and all that depend on it.
 
 ghost use Rattle.std.specs.Prelude.{◌≡◌, ◌↔◌, ◌⊎◌, ◌<◌, ◌+◌, ℕ, map, length, Contains};
 ghost use Rattle.std.specs.Prelude.{IfOk, IsTrue, IfSome, Some, slice_get};

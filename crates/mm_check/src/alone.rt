@@ -7,7 +7,7 @@ ghost use Rattle.mm_explain.specs.Mirror.Reached.{HasReached, IsUnreached};
 ghost use Rattle.mm_check.specs.Reply.{IsLoneAnswer, IsLoneReply, IsNotFoundReply};
 ghost use Rattle.mm_rules.specs.Status.{number_of};
 
-use crate::known::known_reply;
+use crate::checked_prefix::known_reply;
 use crate::question::LoneQuestion;
 use mm_base::{File, Seed};
 use mm_explain::read_to::read_to;

@@ -8,8 +8,8 @@
 
 mod alike;
 mod alone;
+mod checked_prefix;
 mod command;
-mod known;
 mod question;
 mod shorter_reply;
 

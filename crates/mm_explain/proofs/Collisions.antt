@@ -12,7 +12,7 @@ use Rattle.mm_frame.specs.declared.rule.MeaningRule.{MeaningRule}
 use Rattle.mm_frame.specs.declared.rule.MeaningRule.TheVariants.{M1}
 use Rattle.mm_frame.specs.Breaking.{BreaksAt}
 use Rattle.mm_frame.specs.Sentence.{sentence_of}
-use Rattle.mm_explain.specs.declared.breach.Breach.{Breach}
+use Rattle.mm_explain.specs.declared.semantic_error.Breach.{Breach}
 use Rattle.mm_rules.specs.declared.rule.Rule.TheVariants as rules
 use Rattle.mm_facts.specs.Explained.{Detail, token_at_fault, block_opened}
 use Rattle.mm_explain.specs.MeaningFacts.{AreEarlierFacts, AreMeaningFacts, token_at}

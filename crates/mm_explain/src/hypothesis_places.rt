@@ -1,4 +1,4 @@
-//! Where the hypotheses stand that help to mend a proof at fault.
+//! Source positions of the hypotheses that a proof fault lists.
 
 ghost use Rattle.std.specs.Prelude.{◌≡◌, ◌++◌, ℕ, List, map, OnOk};
 ghost use Rattle.mm_text.specs.Files.{plain_file};

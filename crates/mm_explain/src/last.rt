@@ -1,4 +1,4 @@
-//! The facts that explain the fault that ends a run.
+//! Explains the fault that ends a run.
 
 ghost use Rattle.std.specs.Prelude.{◌≡◌, List, map, IfOk};
 ghost use Rattle.mm_text.specs.Files.{plain_file};
@@ -7,7 +7,7 @@ ghost use Rattle.mm_facts.specs.Explained.{Detail, details_text};
 ghost use Rattle.mm_explain.specs.LastFacts.{AreLastFacts};
 ghost use Rattle.mm_explain.specs.Mirror.Last.{EndsRun};
 
-use crate::collision::meaning_facts;
+use crate::conflict::meaning_facts;
 use crate::text_fault::text_facts;
 use mm_base::{File, Seed};
 use mm_rules::{Refusal, Rule};

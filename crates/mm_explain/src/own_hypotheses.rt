@@ -11,7 +11,7 @@ ghost use Rattle.mm_explain.specs.Mirror.Breaches.{Site};
 ghost use Rattle.mm_explain.specs.Mirror.Standing.{AddsEach, AreEarlier, IsPlaced, firsts_of};
 ghost use Rattle.mm_rules.specs.Verdict.{CanBeRead};
 
-use crate::breach::{read_next, reader};
+use crate::semantic_error::{read_next, reader};
 use mm_base::{File, Seed, Statement, Token};
 use mm_facts::push_hypothesis_at;
 use mm_frame::{Book, Hypothesis, LabelId};

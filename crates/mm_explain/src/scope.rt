@@ -9,7 +9,7 @@ ghost use Rattle.mm_explain.specs.Mirror.Breaches.{Site};
 ghost use Rattle.mm_explain.specs.Mirror.Standing.{IsScope};
 ghost use Rattle.mm_rules.specs.Verdict.{CanBeRead};
 
-use crate::breach::{read_next, reader};
+use crate::semantic_error::{read_next, reader};
 use mm_base::{File, Kind, Seed, Statement, Token};
 use mm_facts::{push_block_end, push_stated_at};
 use mm_verdict::has_label;

@@ -1,4 +1,4 @@
-//! The facts that explain a fault of the text.
+//! Explains faults of the text.
 
 ghost use Rattle.std.specs.Prelude.{◌≡◌, ◌++◌, List, [], map, not, true, option_map, Option, Some};
 ghost use Rattle.std.specs.Prelude.{IfErr, IfOk, OnOk, if◌then◌else◌};
@@ -21,9 +21,9 @@ ghost use Rattle.mm_explain.specs.TextFacts.{unclosed_in as unclosed_in_of};
 ghost use Rattle.mm_explain.specs.TextFacts.{token_from as token_from_of};
 ghost use Rattle.mm_rules.specs.Verdict.{CanBeRead, text_refusal};
 
-use crate::breach::reader;
-use crate::collision::pass_block;
-use crate::placed::{push_begun, push_last_closed};
+use crate::conflict::pass_block;
+use crate::place_lines::{push_begun, push_last_closed};
+use crate::semantic_error::reader;
 use mm_base::{File, Kind, Seed, Statement, Token};
 use mm_facts::{push_block as push_opening, push_token};
 use mm_rules::{Refusal, Rule, bytes_before, bytes_from, bytes_of};

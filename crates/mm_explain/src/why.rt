@@ -29,9 +29,9 @@ ghost use Rattle.mm_rules.specs.declared.fault.Refusal.{Refusal};
 ghost use Rattle.mm_explain.specs.declared.why.Unaccepted.TheVariants.{Memory};
 ghost use Rattle.mm_rules.specs.declared.rule.Rule.TheVariants.{Proof};
 
+use crate::forward_reference::{push_later, read_labels};
 use crate::hypothesis_places::push_hypothesis_places;
 use crate::last::last_facts;
-use crate::later::{push_later, read_labels};
 use mm_base::{File, Seed, Statement, Token};
 use mm_facts::{Cause, cause_of, fault_place, push_cause};
 use mm_frame::{Book, Found, LabelId};

@@ -1,4 +1,4 @@
-//! The facts that explain a fault of a proof.
+//! The facts that a report on a faulty proof has, and their order.
 
 ghost use Rattle.std.specs.Prelude.{◌≡◌, ◌≤◌, ◌+◌, ◌++◌, ℕ, List, length, map, take, slice_get};
 ghost use Rattle.std.specs.Prelude.{OnOk, IfOk, IfSome, Some, true, ◌⊎◌};
@@ -29,12 +29,12 @@ ghost use Rattle.mm_facts.specs.Mirror.Explaining.{IsHaltOf, AddsAtHalt, StepFac
 ghost use Rattle.mm_facts.specs.Mirror.Explaining.{AreJudgedSteps, IsJudgedWhole, AskedFacts};
 ghost use Rattle.mm_facts.specs.Mirror.Explaining.{AreNamedPairs, ApartFacts, IsCauseOf};
 
-use crate::apart::push_apart_pairs;
-use crate::near::Nearest;
-use crate::told::{
+use crate::disjoint::push_apart_pairs;
+use crate::fact_lines::{
     push_asks, push_counts, push_end, push_given, push_marks, push_missing, push_most, push_near,
     push_stated, push_step, push_token,
 };
+use crate::suggestion::Nearest;
 use mm_distinct::{asked_by, lacking_pairs};
 use mm_frame::{Book, Hypothesis, LabelId, Sym};
 use mm_listing::{Halt, HaltAt, halt_of};

@@ -1,4 +1,4 @@
-//! Where in its file a proof is at fault.
+//! The place in its file of a fault of a proof.
 
 ghost use Rattle.std.specs.Prelude.{◌≡◌, ◌≤◌, ◌<◌, ℕ, Bool, List, length, map, take};
 ghost use Rattle.std.specs.List.{sum_by};

@@ -5,9 +5,9 @@
 //! `specs/Shorter.antt` of `mm_render`.
 #![tactic(auto)]
 
-mod compared;
 mod library_search;
 mod minimize;
+mod proof_pair;
 mod remarks;
 mod search;
 mod shortening;

@@ -1,4 +1,4 @@
-//! What a database in which nothing is at fault answers to questions for shorter proofs.
+//! The `minimize` questions of an accepted database.
 
 ghost use Rattle.std.specs.Prelude.{◌≡◌, ◌<◌, List, length, None, IfOk, IfErr};
 ghost use Rattle.mm_rules.specs.declared.ask.AskFault.TheVariants.{Memory};

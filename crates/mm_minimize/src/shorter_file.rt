@@ -15,7 +15,7 @@ ghost use Rattle.mm_minimize.specs.Mirror.Shortening.{KnowsDatabase};
 ghost use Rattle.mm_save.specs.Mirror.AllSaving.{IsWrittenSoFar};
 ghost use Rattle.mm_verdict.specs.declared.form.Form.TheVariants.{Small};
 
-use crate::compared::{Compared, shorter_proof};
+use crate::proof_pair::{Compared, shorter_proof};
 use crate::search::Search;
 use crate::shortening::{Shortening, Shorter};
 use mm_base::Statement;

@@ -15,7 +15,7 @@ ghost use Rattle.mm_minimize.specs.Mirror.AllShortening.{line_of, plain_size};
 ghost use Rattle.mm_verdict.specs.Mirror.Rereading.{IsTheoremIn};
 ghost use Rattle.mm_minimize.specs.Mirror.Shortening.{KnowsDatabase};
 
-use crate::compared::{Compared, shorter_proof};
+use crate::proof_pair::{Compared, shorter_proof};
 use crate::search::Search;
 use crate::shortening::Shortening;
 use mm_axioms::push_marked;

@@ -21,10 +21,10 @@ ghost use Rattle.std.specs.Prelude.{◌≡◌, ◌<◌, List};
 
 use crate::comparison::is_same;
 use crate::forms::{OwnProof, normal_text, own_proof, packed_text, small_text, span_text};
+use crate::listing_lines::listing_text;
 use crate::rewrite::{bytes_of, put_in};
-use crate::shown::listing_text;
-use crate::shown_uses::uses_text;
-use crate::stated::push_told;
+use crate::statement_lines::push_told;
+use crate::uses_lines::uses_text;
 use mm_rules::{AskFault, place_of, push_place};
 use mm_verdict::reread::reread;
 use mm_verdict::{Checked, Form, Theorem};

@@ -9,19 +9,19 @@
 mod asked_texts;
 mod comparison;
 mod forms;
+mod listing_lines;
 mod rewrite;
 mod save_fault;
 mod shorter;
-mod shown;
-mod shown_uses;
-mod stated;
+mod statement_lines;
+mod uses_lines;
 
 pub use asked_texts::{
     is_same_proof, normal_form, own_small_proof, packed_form, proof_listing, saved_file,
     small_form, small_span_text, statement_text, uses_listing,
 };
 pub use forms::{OwnProof, own_proof, span_text};
+pub use listing_lines::text_of;
 pub use rewrite::most_for;
 pub use save_fault::SaveFault;
 pub use shorter::{Handed, handed_proof};
-pub use shown::text_of;

@@ -8,7 +8,7 @@ mod explain;
 mod files;
 mod folder;
 mod help;
-mod near;
+mod label_note;
 mod notes;
 mod pages;
 mod progress_line;

@@ -24,7 +24,7 @@ use crate::explain::explanation;
 use crate::files::{Comments, FileFault, ReadFile, read_file, read_files};
 use crate::folder::{Arguments, Folder, Resources};
 use crate::help::help_text;
-use crate::near::notes_beside;
+use crate::label_note::notes_beside;
 use crate::progress_line::{ProgressLine, watched_reply};
 use crate::stop::Stop;
 use crate::texts::Texts;

@@ -1,4 +1,4 @@
-//! How far a long reply has come, for somebody who watches.
+//! Progress callbacks of long replies.
 
 /// How far the way over the theorems of a database has come.
 #[derive(Clone, Copy, PartialEq, Eq, Debug)]

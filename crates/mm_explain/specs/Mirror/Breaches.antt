@@ -14,7 +14,7 @@ use Rattle.mm_frame.specs.declared.rule.MeaningRule.{MeaningRule}
 use Rattle.mm_frame.specs.Breaking.{BreaksAt}
 use Rattle.mm_frame.specs.Rules.{FirstBroken, AllMeant, IsMeant}
 use Rattle.mm_frame.specs.Sentence.{Sentence, sentence_of}
-use Rattle.mm_explain.specs.declared.breach.Breach.{Breach}
+use Rattle.mm_explain.specs.declared.semantic_error.Breach.{Breach}
 use Rattle.mm_verdict.specs.Faults.{IsMeaningRefusal}
 use Rattle.mm_explain.specs.MeaningFacts.{last_met, looked_at}
 use Rattle.mm_rules.specs.Verdict.{CanBeRead, PlainRefusal, sentences}

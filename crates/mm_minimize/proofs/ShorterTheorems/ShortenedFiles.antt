@@ -14,7 +14,7 @@ use Rattle.mm_frame.specs.Sentence.{Sentence, sentence_of}
 use Rattle.mm_step.specs.Moves.{Move}
 use Rattle.mm_step.specs.Tree.{Trees}
 use Rattle.mm_rules.specs.declared.ask.AskFault.{AskFault}
-use Rattle.mm_minimize.specs.declared.compared.Compared.{Compared}
+use Rattle.mm_minimize.specs.declared.proof_pair.Compared.{Compared}
 use Rattle.mm_minimize.specs.declared.shortening.Shorter.{Shorter}
 use Rattle.mm_verdict.specs.declared.form.Form.TheVariants.{Small}
 use Rattle.mm_save.specs.declared.save_all.NewFile.{NewFile}

@@ -14,7 +14,7 @@ use Rattle.mm_base.proofs.Lists.{all_at, all_push, at_from_contains}
 use Rattle.mm_base.proofs.Lists.{all_within}
 use Rattle.mm_frame.specs.Numbers.{labelled_sentences}
 use Rattle.mm_frame.specs.Sentence.{Sentence, sentence_of, IsLabelled}
-use Rattle.mm_minimize.specs.declared.compared.Compared.{Compared}
+use Rattle.mm_minimize.specs.declared.proof_pair.Compared.{Compared}
 use Rattle.mm_minimize.specs.declared.shorter_list.Listing.{Listing}
 use Rattle.mm_minimize.specs.declared.shorter_list.Sizes.{Sizes}
 use Rattle.mm_minimize.specs.declared.shorter_list.Sums.{Sums}

@@ -8,7 +8,7 @@ use Rattle.mm_text.specs.Reading.{Reads}
 use Rattle.mm_frame.specs.Sentence.{sentence_of, IsLabelled}
 use Rattle.mm_step.specs.Steps.{AreSteps}
 use Rattle.mm_render.specs.declared.forms.OwnProof.{OwnProof}
-use Rattle.mm_minimize.specs.declared.compared.Compared.{Compared}
+use Rattle.mm_minimize.specs.declared.proof_pair.Compared.{Compared}
 use Rattle.mm_minimize.specs.declared.shorter_list.Listing.{Listing}
 use Rattle.mm_minimize.specs.declared.shorter_list.Sizes.{Sizes}
 use Rattle.mm_minimize.specs.declared.shorter_list.Sums.{Sums}

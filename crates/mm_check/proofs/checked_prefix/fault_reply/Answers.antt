@@ -1,0 +1,106 @@
+-- The lines, the refusal and the facts are those of the fault.
+use Rattle.std.proofs.Common.{ℕ, List, length, map, ap, ◌∙◌, ◌++◌, ◌≡◌, subst}
+use Rattle.mm_code.specs.Layout.{texts}
+use Rattle.mm_text.specs.Files.{plain_file, PlainFile}
+use Rattle.mm_base.specs.Statement.{plain_statement, PlainStatement}
+use Rattle.mm_frame.specs.Sentence.{Sentence, sentence_of}
+use Rattle.mm_step.specs.declared.profile.Profile.TheVariants.{Lenient}
+use Rattle.mm_rules.specs.declared.rule.Rule.TheVariants as rules
+use Rattle.mm_check.specs.Alone.{AreStepsBefore}
+use Rattle.mm_rules.specs.Answer.{plain_refusal}
+use Rattle.mm_facts.specs.Explained.{judged_tokens}
+use Rattle.mm_facts.specs.Explained.{AreDetails, Detail, details_text, IsTokensFault}
+use Rattle.mm_verdict.specs.Reply.{text_of}
+use Rattle.mm_rules.specs.Verdict.{PlainRefusal, Refused, refusal_of, sentences}
+use Rattle.mm_facts.specs.Why.{IsFaultPlace}
+use Rattle.mm_explain.specs.Why.{head_text}
+use Rattle.mm_explain.proofs.LoneProofs.LoneTheorems.{of_reached, reached_before, reached_few}
+use Rattle.mm_explain.proofs.LoneProofs.LoneTheorems.{reached_number}
+use Rattle.mm_check.proofs.checked_prefix.fault_reply.Goals as goal
+
+pub refusal-refusal-requires : goal.refusal-refusal-requires
+refusal-refusal-requires c =
+    reached_few (map plain_file c.args.files.now) c.requires.reached.0 c.args.reached.now
+    c.requires.reached.1
+
+pub cause_of-requires-clause-proof : goal.cause_of-requires-clause-proof
+cause_of-requires-clause-proof c =
+    let h = c.requires.reached.1 in (
+      length h.before,
+      sentence_of (plain_statement c.args.reached.now.statement),
+      reached_number (map plain_file c.args.files.now) c.requires.reached.0 c.args.reached.now h,
+    )
+
+pub fault_place-at-requires-clause-cause : goal.fault_place-at-requires-clause-cause
+fault_place-at-requires-clause-cause c =
+    let h = c.requires.reached.1 in (
+      Lenient,
+      c.args.reached.now.book.statements,
+      c.args.reached.now.id.0,
+      length h.before,
+      c.args.fault.0,
+      c.args.fault.1,
+      reached_number (map plain_file c.args.files.now) c.requires.reached.0 c.args.reached.now h,
+      c.in_ok-cause.ensures,
+    )
+
+pub push_cause-requires-clause-proof : goal.push_cause-requires-clause-proof
+push_cause-requires-clause-proof c =
+    let h = c.requires.reached.1 in (
+      length h.before,
+      sentence_of (plain_statement c.args.reached.now.statement),
+      reached_number (map plain_file c.args.files.now) c.requires.reached.0 c.args.reached.now h,
+    )
+
+pub push_cause-requires-clause-cause : goal.push_cause-requires-clause-cause
+push_cause-requires-clause-cause c =
+    (texts c.args.tokens.now, c.args.fault.1, c.in_ok-cause.ensures)
+
+pub returns : goal.returns
+returns c = λ label r.
+    let files : List PlainFile = map plain_file c.args.files.now in
+    let st = c.args.reached.now.book.statements in
+    let s : PlainStatement = plain_statement c.args.reached.now.statement in
+    let tokens : List (List ℕ) = texts c.args.tokens.now in
+    let rule = c.args.fault.0 in
+    let step = c.args.fault.1 in
+    let mine = reached_number files label c.args.reached.now r in
+    let told = of_reached files label c.args.reached.now r
+    (λ before s. (details : List Detail) × AreDetails Lenient before s tokens rule step details
+    × (c.push_cause.new.out.items ≡ c.push_head.new.out.items ++ details_text details))
+    (c.in_ok-push_cause.ensures tokens step c.in_ok-cause.ensures) in
+    let place = c.fault_place-at.ensures Lenient st c.args.reached.now.id.0 (length r.before) rule step
+    mine c.in_ok-cause.ensures in
+    let one : plain_refusal c.refusal-refusal.result
+    ≡ refusal_of files (length r.before) s (rules.Proof rule) step =
+    c.refusal-refusal.ensures.told
+    ∙ ap (λ (fs : List PlainFile). refusal_of fs c.args.reached.now.before s
+    (rules.Proof rule) step) c.new-counted.ensures
+    ∙ ap (λ (n : ℕ). refusal_of files n s (rules.Proof rule) step) r.count in
+    record {
+      rule = rule;
+      step = step;
+      fault = rw c.requires.tokens at (of_reached files label c.args.reached.now r
+          (λ before s. IsTokensFault Lenient before s tokens rule step) c.requires.fault);
+      lines = c.args.lines.items;
+      shown = rw c.requires.tokens at (of_reached files label c.args.reached.now r
+          (λ before s. AreStepsBefore before s (judged_tokens tokens) step c.args.lines.items)
+          c.requires.shown);
+      details = told.0;
+      explained = subst
+          (λ (ts : List (List ℕ)). AreDetails Lenient (sentences r.before) (sentence_of s) ts rule
+          step told.0)
+          c.requires.tokens told.1;
+      at = c.fault_place-at.result;
+      place = subst
+          (λ (before : List Sentence). IsFaultPlace Lenient before s rule step c.fault_place-at.result)
+          (reached_before files label c.args.reached.now r) place;
+      said = told.2
+          ∙ ap (λ (first : List ℕ). first ++ details_text told.0)
+          (c.in_ok-push_head.ensures
+          ∙ ap (λ (first : List ℕ). first ++ head_text files c.fault_place-at.result
+          (plain_refusal c.refusal-refusal.result)) c.in_ok-push_refusal.ensures
+          ∙ ap (λ (refusal : PlainRefusal). c.args.lines.items ++ text_of files (Refused refusal)
+          ++ head_text files c.fault_place-at.result refusal) one);
+      ends = c.refusal_status.ensures;
+    }

@@ -1,0 +1,175 @@
+//! `mm show --known`: the steps of a proof up to its first fault or `?`.
+
+ghost use Rattle.std.specs.Prelude.{◌≡◌, ◌≤◌, ℕ, List, map, length, take, true, IfOk};
+ghost use Rattle.std.specs.List.{sum_by};
+ghost use Rattle.mm_base.specs.MostBytes.{most_bytes};
+ghost use Rattle.mm_text.specs.Files.{plain_file};
+ghost use Rattle.mm_base.specs.Statement.{plain_statement};
+ghost use Rattle.mm_code.specs.Layout.{texts};
+ghost use Rattle.mm_frame.specs.Sentence.{Sentence};
+ghost use Rattle.mm_step.specs.declared.profile.Profile.TheVariants.{Lenient};
+ghost use Rattle.mm_proof.specs.KnownPrefix.{known_prefix};
+ghost use Rattle.mm_proof.specs.Parsed.{OfProof, SaySteps};
+ghost use Rattle.mm_step.specs.Steps.{AreSteps, IsProofNumber};
+ghost use Rattle.mm_proof.specs.Tokens.{is_incomplete};
+ghost use Rattle.mm_proof.specs.UnderProfile.{IsPrefixAllowedUnder};
+ghost use Rattle.mm_check.specs.Alone.{AreStepsBefore};
+ghost use Rattle.mm_facts.specs.Explained.{judged_tokens};
+ghost use Rattle.mm_facts.specs.Explained.{IsTokensFault};
+ghost use Rattle.mm_explain.specs.Mirror.Reached.{HasReached};
+ghost use Rattle.mm_check.specs.Reply.{IsKnownFault, IsKnownPrefix, IsKnownReply};
+ghost use Rattle.mm_render.specs.Shown.{IsListingText};
+ghost use Rattle.mm_rules.specs.Status.{number_of};
+ghost use Rattle.mm_rules.specs.Verdict.{proof_of};
+
+use mm_base::File;
+use mm_explain::{Reached, judged_steps, push_head};
+use mm_facts::{cause_of, fault_place, push_cause, push_left_over};
+use mm_frame::{Book, LabelId};
+use mm_listing::halt_of;
+use mm_proof::Steps;
+use mm_render::text_of;
+use mm_rules::{LineCount, Rule, Status, refusal};
+use mm_step::{Profile, ProofFault, ProofRule};
+use mm_verdict::{Reply, proof_of, push_refusal, refusal_status};
+use std::alloc::{AllocError, Global};
+
+/// The reply where the proof, or what is known of it, is at fault: the lines of the steps before
+/// the fault, the refusal, and what explains it.
+fn fault_reply(
+    alloc: Global,
+    files: &[File],
+    reached: &Reached,
+    tokens: &[&[u8]],
+    lines: Vec<u8>,
+    fault: (ProofRule, usize),
+) -> Result<Reply, AllocError>
+    requires reached { (label : List ℕ) × HasReached (map plain_file files.now) label reached.now }
+    requires tokens { texts tokens.now ≡ proof_of (plain_statement reached.now.statement) }
+    requires room { sum_by length (texts tokens.now) ≤ most_bytes }
+    requires fault { OfProof reached.now.book.statements reached.now.id.0 (λ index s.
+        IsTokensFault Lenient (take index reached.now.book.statements) s (texts tokens.now) fault.0
+        fault.1) }
+    requires shown { OfProof reached.now.book.statements reached.now.id.0 (λ index s.
+        AreStepsBefore (take index reached.now.book.statements) s
+        (judged_tokens (texts tokens.now)) fault.1 lines.items) }
+    ensures { IfOk result (λ reply. (label : List ℕ)
+        (r : HasReached (map plain_file files.now) label reached.now)
+        → IsKnownFault (map plain_file files.now) r.before (plain_statement reached.now.statement)
+        reply.text.items (number_of reply.status)) }
+{
+    let rule = Rule::Proof(fault.0);
+    let mut counted = LineCount::new(files);
+    let refusal = refusal(
+        &mut counted,
+        reached.before,
+        &reached.statement,
+        rule,
+        fault.1,
+    );
+    let book = &reached.book;
+    let profile = Profile::Lenient;
+    let cause = cause_of(alloc, profile, book, reached.id, tokens, fault)?;
+    let mut text = lines;
+    push_refusal(&mut text, files, &refusal)?;
+    let at = fault_place(&reached.statement, tokens, &cause);
+    push_head(&mut text, files, at, &refusal)?;
+    push_cause(&mut text, alloc, profile, book, reached.id, &cause, fault.0)?;
+    Ok(Reply {
+        text,
+        status: refusal_status(rule),
+    })
+}
+
+/// The reply where the known prefix of the proof breaks no rule: the lines of its steps, and what
+/// it leaves on the stack.
+fn prefix_reply(
+    alloc: Global,
+    book: &Book,
+    id: LabelId,
+    tokens: &[&[u8]],
+    lines: Vec<u8>,
+) -> Result<Reply, AllocError>
+    requires proof { (index : ℕ) × (s : Sentence) × IsProofNumber book.now.statements id.0 index s }
+    requires room { sum_by length (texts tokens.now) ≤ most_bytes }
+    requires incomplete { is_incomplete (texts tokens.now) ≡ true }
+    requires allowed { OfProof book.now.statements id.0 (λ index s.
+        IsPrefixAllowedUnder Lenient (take index book.now.statements) s (texts tokens.now)) }
+    requires shown { OfProof book.now.statements id.0 (λ index s.
+        IsListingText (take index book.now.statements) s (known_prefix (texts tokens.now))
+        lines.items) }
+    ensures { IfOk result (λ reply. OfProof book.now.statements id.0 (λ index s.
+        IsKnownPrefix (take index book.now.statements) s (texts tokens.now) reply.text.items
+        (number_of reply.status))) }
+{
+    let mut text = lines;
+    push_left_over(&mut text, alloc, Profile::Lenient, book, id, tokens)?;
+    Ok(Reply {
+        text,
+        status: Status::Incomplete,
+    })
+}
+
+/// The reply where these are the steps of the proof, or of its known prefix.
+fn steps_reply(
+    alloc: Global,
+    files: &[File],
+    reached: &Reached,
+    tokens: &[&[u8]],
+    steps: &Steps,
+) -> Result<Reply, AllocError>
+    requires reached { (label : List ℕ) × HasReached (map plain_file files.now) label reached.now }
+    requires tokens { texts tokens.now ≡ proof_of (plain_statement reached.now.statement) }
+    requires room { sum_by length (texts tokens.now) ≤ most_bytes }
+    requires said { OfProof reached.now.book.statements reached.now.id.0 (λ index s.
+        SaySteps reached.now.book.statements index s (judged_tokens (texts tokens.now))
+        steps.now.moves) }
+    requires usable { AreSteps reached.now.book.statements reached.now.id.0 steps.now.moves }
+    requires prefix { steps.now.prefix ≡ is_incomplete (texts tokens.now) }
+    requires profile { steps.now.profile ≡ Lenient }
+    ensures { IfOk result (λ reply. (label : List ℕ)
+        (r : HasReached (map plain_file files.now) label reached.now)
+        → IsKnownReply (map plain_file files.now) r.before (plain_statement reached.now.statement)
+        reply.text.items (number_of reply.status)) }
+{
+    let halt = halt_of(alloc, &reached.book, reached.id, steps)?;
+    let lines = text_of(alloc, &reached.book, &halt.lines)?;
+    match halt.rule {
+        Some(rule) => {
+            let step = halt.lines.len() + 1;
+            fault_reply(alloc, files, reached, tokens, lines, (rule, step))
+        }
+        None if steps.is_prefix() => {
+            prefix_reply(alloc, &reached.book, reached.id, tokens, lines)
+        }
+        None => Ok(Reply {
+            text: lines,
+            status: Status::Done,
+        }),
+    }
+}
+
+/// The reply how the theorem is proved, as far as that is known.
+pub fn known_reply(alloc: Global, files: &[File], reached: &Reached) -> Result<Reply, AllocError>
+    requires { (label : List ℕ) × HasReached (map plain_file files.now) label reached.now }
+    ensures { IfOk result (λ reply. (label : List ℕ)
+        (r : HasReached (map plain_file files.now) label reached.now)
+        → IsKnownReply (map plain_file files.now) r.before (plain_statement reached.now.statement)
+        reply.text.items (number_of reply.status)) }
+{
+    let tokens = proof_of(alloc, &reached.statement)?;
+    match judged_steps(alloc, &reached.book, reached.id, &tokens) {
+        Ok(steps) => steps_reply(alloc, files, reached, &tokens, &steps),
+        Err(ProofFault::Rule { rule, step }) => {
+            fault_reply(
+                alloc,
+                files,
+                reached,
+                &tokens,
+                Vec::new(alloc),
+                (rule, step),
+            )
+        }
+        Err(ProofFault::Memory) => Err(AllocError),
+    }
+}

@@ -1,0 +1,131 @@
+//! Explains M faults: the symbol at fault and the declaration it conflicts with.
+
+ghost use Rattle.std.specs.Prelude.{◌≡◌, ◌++◌, List, ℕ, map, reverse, IfOk, OnOk};
+ghost use Rattle.mm_base.specs.Blocks.{AreClosed, IsInnermost};
+ghost use Rattle.mm_text.specs.Files.{plain_file};
+ghost use Rattle.mm_base.specs.Statement.{PlainStatement};
+ghost use Rattle.mm_rules.specs.Answer.{plain_refusal};
+ghost use Rattle.mm_facts.specs.Explained.{Detail, details_text};
+ghost use Rattle.mm_explain.specs.MeaningFacts.{AreEarlierFacts, AreMeaningFacts};
+ghost use Rattle.mm_explain.specs.Mirror.Breaches.{IsBreach, IsStopped, Site, positions_after};
+ghost use Rattle.mm_explain.specs.Mirror.Breaches.{position_of};
+ghost use Rattle.mm_rules.specs.Verdict.{CanBeRead};
+ghost use Rattle.mm_rules.specs.declared.rule.Rule.TheVariants.{Meaning};
+
+use crate::earlier_declaration::last_met_before;
+use crate::semantic_error::{Breach, read_breach, read_next, reader};
+use mm_base::{File, Kind, Seed, Statement, Token};
+use mm_facts::{push_block, push_met, push_token};
+use mm_frame::MeaningRule;
+use mm_rules::{Refusal, Rule};
+use std::alloc::{AllocError, Global};
+
+/// The blocks that are open once a statement more is read, the innermost last.
+pub(crate) fn pass_block<'a>(
+    blocks: &mut Vec<Token<'a>>,
+    statement: &Statement<'a>,
+) -> Result<(), AllocError>
+    ensures { OnOk result (map position_of (reverse blocks.new.items)
+        ≡ positions_after statement.now.kind (position_of statement.now.first)
+        (map position_of (reverse blocks.old.items))) }
+{
+    match statement.kind {
+        Kind::Opening => {
+            blocks.push(statement.first)?;
+            Ok(())
+        }
+        Kind::Closing => {
+            let _ = blocks.pop();
+            Ok(())
+        }
+        _ => Ok(()),
+    }
+}
+
+/// Where the innermost of the blocks begins that are open after so many statements.
+fn innermost_before<'a>(
+    alloc: Global,
+    seed: Seed,
+    files: &'a [File<'a>],
+    count: usize,
+) -> Result<Token<'a>, AllocError>
+    requires readable { CanBeRead (map plain_file files.now) }
+    requires opened { (site : Site (map plain_file files.now) count) × ¬ (AreClosed site.before) }
+    ensures { IfOk result (λ token. (site : Site (map plain_file files.now) count)
+        → (outer : List PlainStatement) × (opening : PlainStatement)
+        × IsInnermost site.before outer opening
+        × (token.file ≡ opening.first.file) × (token.at ≡ opening.first.at)) }
+{
+    let mut statements = reader(alloc, seed, files)?;
+    let mut statement = Statement::empty(alloc);
+    let mut blocks: Vec<Token<'a>> = Vec::new(alloc);
+    for _ in 0..count {
+        read_next(&mut statements, &mut statement)?;
+        pass_block(&mut blocks, &statement)?;
+    }
+    match blocks.pop() {
+        Some(token) => Ok(token),
+        // A block is open.
+        None => unreachable!(),
+    }
+}
+
+/// The rule of meaning for which a statement is refused.
+fn meaning_rule(refusal: &Refusal) -> MeaningRule
+    requires { (rule : MeaningRule) × (refusal.now.rule ≡ Meaning rule) }
+    ensures { refusal.now.rule ≡ Meaning result }
+{
+    match refusal.rule {
+        Rule::Meaning(rule) => rule,
+        _ => unreachable!(),
+    }
+}
+
+/// Puts at the end with what the token at fault collides.
+fn push_earlier<'a>(
+    out: &mut Vec<u8>,
+    alloc: Global,
+    seed: Seed,
+    files: &'a [File<'a>],
+    breach: &Breach<'a>,
+) -> Result<(), AllocError>
+    requires { IsBreach (map plain_file files.now) breach.now }
+    ensures { OnOk result ((details : List Detail)
+        × ((site : Site (map plain_file files.now) breach.now.before)
+        → AreEarlierFacts (map plain_file files.now) breach.now.rule site.before site.s
+        breach.now.index details)
+        × (out.new.items ≡ out.old.items ++ details_text details)) }
+{
+    match breach.rule {
+        MeaningRule::M1 => {
+            let block = innermost_before(alloc, seed, files, breach.before)?;
+            push_block(out, files, block)
+        }
+        _ => match last_met_before(alloc, seed, files, breach)? {
+            Some(token) => push_met(out, files, breach.rule, token),
+            None => Ok(()),
+        },
+    }
+}
+
+/// The position where the statement breaks the rule of meaning for which the files are refused,
+/// and the text of the facts that explain it. The files are read again up to that statement.
+pub(crate) fn meaning_facts<'a>(
+    alloc: Global,
+    seed: Seed,
+    files: &'a [File<'a>],
+    refusal: &Refusal<'a>,
+) -> Result<(usize, Vec<u8>), AllocError>
+    requires { IsStopped (map plain_file files.now) (plain_refusal refusal.now) }
+    ensures { IfOk result (λ told. (details : List Detail)
+        × AreMeaningFacts (map plain_file files.now) (plain_refusal refusal.now) told.0 details
+        × (told.1.items ≡ details_text details)) }
+{
+    let rule = meaning_rule(refusal);
+    let breach = read_breach(alloc, seed, files, refusal.statement - 1, rule)?;
+    let token = breach.token();
+    let mut text = Vec::new(alloc);
+    push_token(&mut text, token.text)?;
+    push_earlier(&mut text, alloc, seed, files, &breach)?;
+    Ok((token.at as usize, text))
+}

@@ -1,0 +1,208 @@
+//! `mm try`: whether a text proves a theorem, whatever proof its file has.
+
+ghost use Rattle.std.specs.Prelude.{◌≡◌, ◌≤◌, ℕ, List, length, take, IfOk, IfErr};
+ghost use Rattle.std.specs.List.{sum_by};
+ghost use Rattle.mm_base.specs.MostBytes.{most_bytes};
+ghost use Rattle.mm_text.specs.Files.{plain_file};
+ghost use Rattle.mm_code.specs.Layout.{texts};
+ghost use Rattle.mm_code.specs.Words.{tokens_in};
+ghost use Rattle.mm_frame.specs.Sentence.{Sentence};
+ghost use Rattle.mm_proof.specs.Answer.{OnRule};
+ghost use Rattle.mm_step.specs.declared.fault.ProofRule.{ProofRule};
+ghost use Rattle.mm_step.specs.declared.profile.Profile.{Profile};
+ghost use Rattle.mm_step.specs.declared.profile.Profile.TheVariants.{Lenient};
+ghost use Rattle.mm_proof.specs.Parsed.{OfProof, SaySteps};
+ghost use Rattle.mm_step.specs.Steps.{AreSteps, IsProofNumber};
+ghost use Rattle.mm_proof.specs.Tokens.{is_incomplete};
+ghost use Rattle.mm_facts.specs.Explained.{judged_tokens};
+ghost use Rattle.mm_facts.specs.Explained.{IsTokensFault};
+ghost use Rattle.mm_facts.specs.Mirror.Explaining.{IsCauseOf};
+ghost use Rattle.mm_explain.specs.Mirror.Reached.{AreTried};
+ghost use Rattle.mm_explain.specs.Reply.{IsTokensReply, IsTriedFault, IsTriedPrefix, IsTryReply};
+ghost use Rattle.mm_rules.specs.Status.{number_of};
+ghost use Rattle.mm_explain.specs.Why.{IsTextPlace};
+
+use crate::why::push_head_at;
+use mm_base::File;
+use mm_facts::{Cause, cause_of, place_among, push_cause, push_left_over};
+use mm_frame::{Book, LabelId};
+use mm_proof::{Parsed, Proved, Steps, verify};
+use mm_rules::{AskRule, Rule, Status};
+use mm_step::{Flat, Profile, ProofFault, ProofRule};
+use mm_verdict::{Reply, ask_reply, handed_tokens, placed_tokens, refused_text, text_status};
+use std::alloc::{AllocError, Global};
+
+/// The steps that the tokens say as a proof of the `$p` with the number, or that their known prefix
+/// says; or the first rule that those break over the whole of them, at step 0.
+pub fn judged_steps(
+    alloc: Global,
+    book: &Book,
+    id: LabelId,
+    tokens: &[&[u8]],
+) -> Result<Steps, ProofFault>
+    requires proof { (index : ℕ) × (s : Sentence) × IsProofNumber book.now.statements id.0 index s }
+    requires room { sum_by length (texts tokens.now) ≤ most_bytes }
+    ensures said { IfOk result (λ steps. OfProof book.now.statements id.0 (λ index s.
+        SaySteps book.now.statements index s (judged_tokens (texts tokens.now)) steps.moves)) }
+    ensures usable { IfOk result (λ steps. AreSteps book.now.statements id.0 steps.moves) }
+    ensures prefix { IfOk result (λ steps. steps.prefix ≡ is_incomplete (texts tokens.now)) }
+    ensures profile { IfOk result (λ steps. steps.profile ≡ Lenient) }
+    ensures fault { IfErr result (λ fault. OnRule fault (λ rule step. (step ≡ 0)
+        × OfProof book.now.statements id.0 (λ index s.
+        IsTokensFault Lenient (take index book.now.statements) s (texts tokens.now) rule step))) }
+{
+    match Steps::parse(alloc, Profile::Lenient, book, id, tokens)? {
+        Parsed::Steps(steps) => Ok(steps),
+        Parsed::Incomplete(steps) => Ok(steps),
+    }
+}
+
+/// What the tokens are as a proof of the `$p` with the number: a complete one, an incomplete one
+/// whose known prefix breaks no rule, or one with this first fault.
+fn try_tokens(
+    alloc: Global,
+    book: &Book,
+    id: LabelId,
+    tokens: &[&[u8]],
+) -> Result<Proved, ProofFault>
+    requires proof { (index : ℕ) × (s : Sentence) × IsProofNumber book.now.statements id.0 index s }
+    requires room { sum_by length (texts tokens.now) ≤ most_bytes }
+    ensures tried { IfOk result (λ proved. OfProof book.now.statements id.0 (λ index s.
+        AreTried (take index book.now.statements) s (texts tokens.now) proved)) }
+    ensures fault { IfErr result (λ fault. OnRule fault (λ rule step.
+        OfProof book.now.statements id.0 (λ index s.
+        IsTokensFault Lenient (take index book.now.statements) s (texts tokens.now) rule step))) }
+{
+    let steps = judged_steps(alloc, book, id, tokens)?;
+    let _used = verify(alloc, Flat::new(alloc), book, id, &steps)?;
+    if steps.is_prefix() {
+        Ok(Proved::Incomplete)
+    } else {
+        Ok(Proved::Complete)
+    }
+}
+
+/// The reply where the known prefix of the tokens breaks no rule: that they are incomplete, and
+/// what the prefix leaves on the stack.
+fn prefix_reply(
+    alloc: Global,
+    book: &Book,
+    id: LabelId,
+    tokens: &[&[u8]],
+) -> Result<Reply, AllocError>
+    requires proof { (index : ℕ) × (s : Sentence) × IsProofNumber book.now.statements id.0 index s }
+    requires room { sum_by length (texts tokens.now) ≤ most_bytes }
+    requires tried { OfProof book.now.statements id.0 (λ index s.
+        AreTried (take index book.now.statements) s (texts tokens.now) Proved.Incomplete) }
+    ensures { IfOk result (λ reply. OfProof book.now.statements id.0 (λ index s.
+        IsTriedPrefix (take index book.now.statements) s (texts tokens.now) reply.text.items
+        (number_of reply.status))) }
+{
+    let rule = Rule::Ask(AskRule::A3);
+    let mut text = refused_text(alloc, rule, 0)?;
+    push_left_over(&mut text, alloc, Profile::Lenient, book, id, tokens)?;
+    Ok(Reply {
+        text,
+        status: text_status(rule),
+    })
+}
+
+/// The position of the first fault of the tokens of a text among its bytes, by its cause.
+fn place_in(
+    alloc: Global,
+    text: &[u8],
+    tokens: &[&[u8]],
+    cause: &Cause,
+) -> Result<usize, AllocError>
+    requires tokens { texts tokens.now ≡ tokens_in text.now }
+    requires size { length text.now ≤ most_bytes }
+    requires room { sum_by length (texts tokens.now) ≤ most_bytes }
+    requires cause { (profile : Profile) × (statements : List Sentence) × (id : ℕ) × (index : ℕ)
+        × (s : Sentence) × (rule : ProofRule) × (step : ℕ) × IsProofNumber statements id index s
+        × IsCauseOf profile statements id (texts tokens.now) rule step cause.now }
+    ensures { IfOk result (λ at. (profile : Profile) (statements : List Sentence) (id : ℕ)
+        (index : ℕ) (s : Sentence) (rule : ProofRule) (step : ℕ)
+        → IsProofNumber statements id index s
+        → IsCauseOf profile statements id (texts tokens.now) rule step cause.now
+        → IsTextPlace profile (take index statements) s text.now rule step at) }
+{
+    let placed = placed_tokens(alloc, text)?;
+    Ok(place_among(&placed, text.len(), tokens, cause))
+}
+
+/// The reply where the tokens of the text in a file have this first fault: the fault, and what
+/// explains it, with its place in that file.
+fn fault_reply(
+    alloc: Global,
+    book: &Book,
+    id: LabelId,
+    proof: &File,
+    tokens: &[&[u8]],
+    fault: (ProofRule, usize),
+) -> Result<Reply, AllocError>
+    requires proof { (index : ℕ) × (s : Sentence) × IsProofNumber book.now.statements id.0 index s }
+    requires tokens { texts tokens.now ≡ tokens_in proof.now.bytes.now }
+    requires size { length proof.now.bytes.now ≤ most_bytes }
+    requires room { sum_by length (texts tokens.now) ≤ most_bytes }
+    requires fault { OfProof book.now.statements id.0 (λ index s.
+        IsTokensFault Lenient (take index book.now.statements) s (texts tokens.now) fault.0
+        fault.1) }
+    ensures { IfOk result (λ reply. OfProof book.now.statements id.0 (λ index s.
+        IsTriedFault (plain_file proof.now) (take index book.now.statements) s reply.text.items
+        (number_of reply.status))) }
+{
+    let profile = Profile::Lenient;
+    let rule = Rule::Proof(fault.0);
+    let cause = cause_of(alloc, profile, book, id, tokens, fault)?;
+    let at = place_in(alloc, proof.bytes, tokens, &cause)?;
+    let mut text = refused_text(alloc, rule, fault.1)?;
+    push_head_at(&mut text, &[*proof], (0, at), (rule, fault.1), None)?;
+    push_cause(&mut text, alloc, profile, book, id, &cause, fault.0)?;
+    Ok(Reply {
+        text,
+        status: text_status(rule),
+    })
+}
+
+/// The reply what the tokens of the text in a file are as a proof of the `$p` with the number.
+fn tokens_reply(
+    alloc: Global,
+    book: &Book,
+    id: LabelId,
+    proof: &File,
+    tokens: &[&[u8]],
+) -> Result<Reply, AllocError>
+    requires proof { (index : ℕ) × (s : Sentence) × IsProofNumber book.now.statements id.0 index s }
+    requires tokens { texts tokens.now ≡ tokens_in proof.now.bytes.now }
+    requires size { length proof.now.bytes.now ≤ most_bytes }
+    requires room { sum_by length (texts tokens.now) ≤ most_bytes }
+    ensures { IfOk result (λ reply. OfProof book.now.statements id.0 (λ index s.
+        IsTokensReply (plain_file proof.now) (take index book.now.statements) s reply.text.items
+        (number_of reply.status))) }
+{
+    match try_tokens(alloc, book, id, tokens) {
+        Ok(Proved::Complete) => Ok(Reply {
+            text: Vec::from_slice(alloc, b"proof\n")?,
+            status: Status::Done,
+        }),
+        Ok(Proved::Incomplete) => prefix_reply(alloc, book, id, tokens),
+        Err(ProofFault::Rule { rule, step }) => {
+            fault_reply(alloc, book, id, proof, tokens, (rule, step))
+        }
+        Err(ProofFault::Memory) => Err(AllocError),
+    }
+}
+
+/// The reply whether the text in a file is a proof of the `$p` with the number.
+pub fn try_reply(alloc: Global, book: &Book, id: LabelId, proof: &File) -> Result<Reply, AllocError>
+    requires { (index : ℕ) × (s : Sentence) × IsProofNumber book.now.statements id.0 index s }
+    ensures { IfOk result (λ reply. OfProof book.now.statements id.0 (λ index s.
+        IsTryReply (plain_file proof.now) (take index book.now.statements) s reply.text.items
+        (number_of reply.status))) }
+{
+    match handed_tokens(alloc, proof.bytes) {
+        Ok(tokens) => tokens_reply(alloc, book, id, proof, &tokens),
+        // A fault of the text alone, which tells no label.
+        Err(fault) => ask_reply(alloc, b"", fault),
+    }
+}

@@ -1,0 +1,478 @@
+//! The lines of a report on a faulty proof, one for each fact.
+
+ghost use Rattle.std.specs.Prelude.{◌≡◌, ◌≢◌, ◌<◌, ◌++◌, ◌+◌, ◌^◌, ℕ, length, decimal, OnOk, codes};
+ghost use Rattle.std.specs.Prelude.{Some, None, IfSome, slice_get, map};
+ghost use Rattle.std.specs.List.{AllByRecursion};
+ghost use Rattle.mm_text.specs.Files.{plain_file};
+ghost use Rattle.mm_base.specs.Token.{plain_token};
+ghost use Rattle.mm_frame.specs.Numbers.{symbols_of};
+ghost use Rattle.mm_step.specs.Stores.{numbers_in};
+ghost use Rattle.mm_facts.specs.Explained.{detail_text, expression_line, difference_line};
+ghost use Rattle.mm_facts.specs.Explained.{but_given_text, pair_asked, end_given, mark_text};
+ghost use Rattle.mm_facts.specs.Explained.{symbol_at as symbol_there};
+ghost use Rattle.mm_facts.specs.Explained.{token_at_fault, step_label, mark_asked, entry_counts};
+ghost use Rattle.mm_facts.specs.Explained.{hypothesis_stated, entry_given, hypothesis_asks};
+ghost use Rattle.mm_facts.specs.Explained.{most_symbols, missing_pair, step_lacks, shared_by_both};
+ghost use Rattle.mm_facts.specs.Explained.{block_opened, near_label, stated_at, block_ended_at};
+ghost use Rattle.mm_facts.specs.Explained.{hypothesis_at};
+ghost use Rattle.mm_facts.specs.MeaningFacts.{met_as};
+ghost use Rattle.mm_rules.specs.Answer.{labels_at};
+ghost use Rattle.mm_rules.specs.Places.{place_text, token_place};
+
+use mm_base::{File, Token};
+use mm_frame::{Book, MeaningRule, Sym};
+use mm_rules::{Place, place_of, push_decimal, push_place, push_symbols};
+use std::alloc::AllocError;
+
+/// A word between two others.
+#[tactic(auto, using(crate::proofs::DetailTexts::three_parts))]
+fn push_between(
+    out: &mut Vec<u8>,
+    before: &[u8],
+    word: &[u8],
+    after: &[u8],
+) -> Result<(), AllocError>
+    ensures { OnOk result (out.new.items ≡ out.old.items
+        ++ (before.now ++ word.now ++ after.now)) }
+{
+    out.extend_from_slice(before)?;
+    out.extend_from_slice(word)?;
+    out.extend_from_slice(after)
+}
+
+/// A number, in decimal, between two words.
+#[tactic(auto, using(crate::proofs::DetailTexts::three_parts))]
+fn push_number_between(
+    out: &mut Vec<u8>,
+    before: &[u8],
+    number: usize,
+    after: &[u8],
+) -> Result<(), AllocError>
+    ensures { OnOk result (out.new.items ≡ out.old.items
+        ++ (before.now ++ decimal number ++ after.now)) }
+{
+    out.extend_from_slice(before)?;
+    push_decimal(out, number)?;
+    out.extend_from_slice(after)
+}
+
+/// The token at fault.
+pub fn push_token(out: &mut Vec<u8>, text: &[u8]) -> Result<(), AllocError>
+    ensures { OnOk result (out.new.items ≡ out.old.items ++ detail_text (token_at_fault text.now)) }
+{
+    push_between(out, b"  token: ", text, b"\n")
+}
+
+/// A label that is near to the token at fault.
+pub(crate) fn push_near(out: &mut Vec<u8>, label: &[u8]) -> Result<(), AllocError>
+    ensures { OnOk result (out.new.items ≡ out.old.items ++ detail_text (near_label label.now)) }
+{
+    push_between(out, b"  near: ", label, b"\n")
+}
+
+/// The label of the step.
+pub fn push_step(out: &mut Vec<u8>, label: &[u8]) -> Result<(), AllocError>
+    ensures { OnOk result (out.new.items ≡ out.old.items ++ detail_text (step_label label.now)) }
+{
+    push_between(out, b"  step: ", label, b"\n")
+}
+
+/// The index, from 0 on, of the first mark whose number isn't told.
+const UNTOLD: usize = 999_999_999;
+
+/// The number of the mark with an index. A number of the proof that is too large for its type is
+/// read as the largest one, so that of a large index only this is told.
+#[tactic(auto, using(crate::proofs::DetailTexts::mark_numbers))]
+fn push_mark(out: &mut Vec<u8>, index: usize) -> Result<(), AllocError>
+    ensures { OnOk result (out.new.items ≡ out.old.items ++ mark_text (index + 1)) }
+{
+    if index < UNTOLD {
+        push_decimal(out, index + 1)
+    } else {
+        out.extend_from_slice(b"1000000000 or a later one")
+    }
+}
+
+/// Which mark the step by a tag repeats, and how many there are.
+#[tactic(auto, using(crate::proofs::DetailTexts::mark_parts))]
+pub(crate) fn push_marks(out: &mut Vec<u8>, tag: usize, there: usize) -> Result<(), AllocError>
+    ensures { OnOk result (out.new.items ≡ out.old.items
+        ++ detail_text (mark_asked (tag + 1) there)) }
+{
+    out.extend_from_slice(b"  it repeats Z number ")?;
+    push_mark(out, tag)?;
+    push_number_between(out, b", and there are ", there, b"\n")
+}
+
+/// How many entries the step takes, and how many there are.
+#[tactic(auto, using(crate::proofs::DetailTexts::five_parts))]
+pub(crate) fn push_counts(out: &mut Vec<u8>, needed: usize, there: usize) -> Result<(), AllocError>
+    ensures { OnOk result (out.new.items ≡ out.old.items
+        ++ detail_text (entry_counts needed there)) }
+{
+    push_number_between(
+        out,
+        b"  entries it takes: ",
+        needed,
+        b", entries there are: ",
+    )?;
+    push_decimal(out, there)?;
+    out.push(b'\n')?;
+    Ok(())
+}
+
+/// Symbols, on a line of their own.
+#[tactic(auto, using(crate::proofs::DetailTexts::three_parts))]
+fn push_expression(out: &mut Vec<u8>, book: &Book, symbols: &[Sym]) -> Result<(), AllocError>
+    requires { AllByRecursion (λ n. n < length (symbols_of book.now.statements))
+        (numbers_in symbols.now) }
+    ensures { OnOk result (out.new.items ≡ out.old.items
+        ++ expression_line (labels_at (symbols_of book.now.statements) (numbers_in symbols.now))) }
+{
+    out.extend_from_slice(b"   ")?;
+    push_symbols(out, book, symbols)?;
+    out.push(b'\n')?;
+    Ok(())
+}
+
+/// What a hypothesis states.
+#[tactic(auto, using(crate::proofs::DetailTexts::two_parts))]
+pub(crate) fn push_stated(
+    out: &mut Vec<u8>,
+    book: &Book,
+    label: &[u8],
+    stated: &[Sym],
+) -> Result<(), AllocError>
+    requires { AllByRecursion (λ n. n < length (symbols_of book.now.statements))
+        (numbers_in stated.now) }
+    ensures { OnOk result (out.new.items ≡ out.old.items
+        ++ detail_text (hypothesis_stated label.now
+        (labels_at (symbols_of book.now.statements) (numbers_in stated.now)))) }
+{
+    push_between(out, b"  ", label, b" states\n")?;
+    push_expression(out, book, stated)
+}
+
+/// What a step gives.
+#[tactic(auto, using(crate::proofs::DetailTexts::two_parts))]
+pub(crate) fn push_given(
+    out: &mut Vec<u8>,
+    book: &Book,
+    number: usize,
+    given: &[Sym],
+) -> Result<(), AllocError>
+    requires { AllByRecursion (λ n. n < length (symbols_of book.now.statements))
+        (numbers_in given.now) }
+    ensures { OnOk result (out.new.items ≡ out.old.items
+        ++ detail_text (entry_given number
+        (labels_at (symbols_of book.now.statements) (numbers_in given.now)))) }
+{
+    push_number_between(out, b"  step ", number, b" gives\n")?;
+    push_expression(out, book, given)
+}
+
+/// The index of the first symbol at which two expressions differ; none where they are the same.
+fn difference(e: &[Sym], f: &[Sym]) -> Option<usize>
+    ensures same { result ≡ None → numbers_in e.now ≡ numbers_in f.now }
+    ensures differ { IfSome result (λ index. slice_get (numbers_in e.now) index
+        ≢ slice_get (numbers_in f.now) index) }
+    ensures room { IfSome result (λ index. index < usize.MAX) }
+    ensures first { IfSome result (λ index. (i : ℕ) → i < index
+        → slice_get (numbers_in e.now) i ≡ slice_get (numbers_in f.now) i) }
+{
+    for index in 0..e.len().min(f.len()) {
+        if e[index].0 != f[index].0 {
+            return Some(index);
+        }
+    }
+    if e.len() == f.len() {
+        None
+    } else {
+        Some(e.len().min(f.len()))
+    }
+}
+
+/// The name of the symbol at an index.
+#[tactic(auto, using(crate::proofs::DetailTexts::named))]
+fn symbol_at<'a>(book: &Book<'a>, symbols: &[Sym], index: usize) -> &'a [u8]
+    requires { AllByRecursion (λ n. n < length (symbols_of book.now.statements))
+        (numbers_in symbols.now) }
+    ensures { result.now ≡ symbol_there
+        (labels_at (symbols_of book.now.statements) (numbers_in symbols.now)) index }
+{
+    if index < symbols.len() {
+        book.name(symbols[index])
+    } else {
+        b"nothing"
+    }
+}
+
+/// Where what is given differs from what is asked.
+#[tactic(auto, using(crate::proofs::DetailTexts::three_groups))]
+fn push_difference(
+    out: &mut Vec<u8>,
+    book: &Book,
+    asked: &[Sym],
+    given: &[Sym],
+    index: usize,
+) -> Result<(), AllocError>
+    requires asked { AllByRecursion (λ n. n < length (symbols_of book.now.statements))
+        (numbers_in asked.now) }
+    requires given { AllByRecursion (λ n. n < length (symbols_of book.now.statements))
+        (numbers_in given.now) }
+    requires room { index < usize.MAX }
+    ensures { OnOk result (out.new.items ≡ out.old.items
+        ++ difference_line (labels_at (symbols_of book.now.statements) (numbers_in asked.now))
+        (labels_at (symbols_of book.now.statements) (numbers_in given.now)) (Some index)) }
+{
+    push_number_between(out, b"  they differ at symbol ", index + 1, b": ")?;
+    out.extend_from_slice(symbol_at(book, given, index))?;
+    push_between(out, b" for ", symbol_at(book, asked, index), b"\n")
+}
+
+/// What is asked, what a step gives, and where they differ.
+fn push_but_given(
+    out: &mut Vec<u8>,
+    book: &Book,
+    asked: &[Sym],
+    number: usize,
+    given: &[Sym],
+) -> Result<(), AllocError>
+    requires asked { AllByRecursion (λ n. n < length (symbols_of book.now.statements))
+        (numbers_in asked.now) }
+    requires given { AllByRecursion (λ n. n < length (symbols_of book.now.statements))
+        (numbers_in given.now) }
+    ensures { OnOk result (out.new.items ≡ out.old.items
+        ++ but_given_text (labels_at (symbols_of book.now.statements) (numbers_in asked.now))
+        number (labels_at (symbols_of book.now.statements) (numbers_in given.now))) }
+{
+    push_expression(out, book, asked)?;
+    push_number_between(out, b"  but step ", number, b" gives\n")?;
+    push_expression(out, book, given)?;
+    match difference(asked, given) {
+        Some(index) => push_difference(out, book, asked, given, index),
+        None => Ok(()),
+    }
+}
+
+/// What a hypothesis asks, and what a step gives.
+pub(crate) fn push_asks(
+    out: &mut Vec<u8>,
+    book: &Book,
+    label: &[u8],
+    asked: &[Sym],
+    number: usize,
+    given: &[Sym],
+) -> Result<(), AllocError>
+    requires asked { AllByRecursion (λ n. n < length (symbols_of book.now.statements))
+        (numbers_in asked.now) }
+    requires given { AllByRecursion (λ n. n < length (symbols_of book.now.statements))
+        (numbers_in given.now) }
+    ensures { OnOk result (out.new.items ≡ out.old.items
+        ++ detail_text (hypothesis_asks label.now
+        (labels_at (symbols_of book.now.statements) (numbers_in asked.now)) number
+        (labels_at (symbols_of book.now.statements) (numbers_in given.now)))) }
+{
+    match difference(asked, given) {
+        Some(_) => {
+            push_between(out, b"  ", label, b" asks\n")?;
+            push_but_given(out, book, asked, number, given)
+        }
+        None => {
+            push_between(out, b"  ", label, b" asks, and step ")?;
+            push_number_between(out, b"", number, b" gives\n")?;
+            push_expression(out, book, asked)
+        }
+    }
+}
+
+/// What is to be proved, and what the last step gives.
+#[tactic(auto, using(crate::proofs::DetailTexts::behind_word))]
+pub(crate) fn push_end(
+    out: &mut Vec<u8>,
+    book: &Book,
+    stated: &[Sym],
+    number: usize,
+    given: &[Sym],
+) -> Result<(), AllocError>
+    requires stated { AllByRecursion (λ n. n < length (symbols_of book.now.statements))
+        (numbers_in stated.now) }
+    requires given { AllByRecursion (λ n. n < length (symbols_of book.now.statements))
+        (numbers_in given.now) }
+    ensures { OnOk result (out.new.items ≡ out.old.items
+        ++ detail_text (end_given
+        (labels_at (symbols_of book.now.statements) (numbers_in stated.now)) number
+        (labels_at (symbols_of book.now.statements) (numbers_in given.now)))) }
+{
+    out.extend_from_slice(b"  it states\n")?;
+    push_but_given(out, book, stated, number, given)
+}
+
+/// The variables that both have.
+#[tactic(auto, using(crate::proofs::DetailTexts::three_parts))]
+pub(crate) fn push_shared(
+    out: &mut Vec<u8>,
+    book: &Book,
+    variables: &[Sym],
+) -> Result<(), AllocError>
+    requires { AllByRecursion (λ n. n < length (symbols_of book.now.statements))
+        (numbers_in variables.now) }
+    ensures { OnOk result (out.new.items ≡ out.old.items
+        ++ detail_text (shared_by_both
+        (labels_at (symbols_of book.now.statements) (numbers_in variables.now)))) }
+{
+    out.extend_from_slice(b"  both have:")?;
+    push_symbols(out, book, variables)?;
+    out.push(b'\n')?;
+    Ok(())
+}
+
+/// Two variables of a `$d` that this step lacks.
+pub(crate) fn push_step_lacks(out: &mut Vec<u8>, x: &[u8], y: &[u8]) -> Result<(), AllocError>
+    ensures { OnOk result (out.new.items ≡ out.old.items
+        ++ detail_text (step_lacks x.now y.now)) }
+{
+    push_between(out, b"  this step lacks: $d ", x, b" ")?;
+    push_between(out, b"", y, b" $.\n")
+}
+
+/// Two variables of a `$d` that the whole proof lacks.
+pub(crate) fn push_missing(out: &mut Vec<u8>, x: &[u8], y: &[u8]) -> Result<(), AllocError>
+    ensures { OnOk result (out.new.items ≡ out.old.items
+        ++ detail_text (missing_pair x.now y.now)) }
+{
+    push_between(out, b"  the whole proof lacks: $d ", x, b" ")?;
+    push_between(out, b"", y, b" $.\n")
+}
+
+/// Two variables that must stay apart.
+fn push_apart(out: &mut Vec<u8>, x: &[u8], y: &[u8]) -> Result<(), AllocError>
+    ensures { OnOk result (out.new.items ≡ out.old.items
+        ++ (codes "  it asks $d " ++ x.now ++ codes " " ++ y.now ++ codes " $., where ")) }
+{
+    push_between(out, b"  it asks $d ", x, b" ")?;
+    push_between(out, b"", y, b" $., where ")
+}
+
+/// What replaces a variable.
+fn push_replaced(
+    out: &mut Vec<u8>,
+    book: &Book,
+    x: &[u8],
+    symbols: &[Sym],
+) -> Result<(), AllocError>
+    requires { AllByRecursion (λ n. n < length (symbols_of book.now.statements))
+        (numbers_in symbols.now) }
+    ensures { OnOk result (out.new.items ≡ out.old.items ++ (x.now ++ codes " is\n"
+        ++ expression_line (labels_at (symbols_of book.now.statements) (numbers_in symbols.now)))) }
+{
+    push_between(out, b"", x, b" is\n")?;
+    push_expression(out, book, symbols)
+}
+
+/// Two variables that must stay apart, and what replaces them.
+pub(crate) fn push_pair(
+    out: &mut Vec<u8>,
+    book: &Book,
+    x: &[u8],
+    y: &[u8],
+    e: &[Sym],
+    f: &[Sym],
+) -> Result<(), AllocError>
+    requires first { AllByRecursion (λ n. n < length (symbols_of book.now.statements))
+        (numbers_in e.now) }
+    requires second { AllByRecursion (λ n. n < length (symbols_of book.now.statements))
+        (numbers_in f.now) }
+    ensures { OnOk result (out.new.items ≡ out.old.items
+        ++ detail_text (pair_asked x.now y.now
+        (labels_at (symbols_of book.now.statements) (numbers_in e.now))
+        (labels_at (symbols_of book.now.statements) (numbers_in f.now)))) }
+{
+    push_apart(out, x, y)?;
+    push_replaced(out, book, x, e)?;
+    out.extend_from_slice(b"  and ")?;
+    push_replaced(out, book, y, f)
+}
+
+/// The most symbols that an expression may have.
+pub(crate) fn push_most(out: &mut Vec<u8>, symbols: usize) -> Result<(), AllocError>
+    ensures { OnOk result (out.new.items ≡ out.old.items ++ detail_text (most_symbols symbols)) }
+{
+    push_number_between(out, b"  an expression may have ", symbols, b" symbols\n")
+}
+
+/// The place where a token stands, between words and the line's end.
+#[tactic(auto, using(crate::proofs::DetailTexts::three_parts))]
+fn push_where(
+    out: &mut Vec<u8>,
+    words: &[u8],
+    files: &[File],
+    token: Token,
+) -> Result<(), AllocError>
+    ensures { OnOk result (out.new.items ≡ out.old.items
+        ++ (words.now ++ token_place (map plain_file files.now) (plain_token token.entry)
+        ++ codes "\n")) }
+{
+    out.extend_from_slice(words)?;
+    push_place(out, files, place_of(files, token.file, token.at as usize))?;
+    out.push(b'\n')?;
+    Ok(())
+}
+
+/// Where the block begins in which the statement stands.
+pub fn push_block(out: &mut Vec<u8>, files: &[File], token: Token) -> Result<(), AllocError>
+    ensures { OnOk result (out.new.items ≡ out.old.items ++ detail_text
+        (block_opened (token_place (map plain_file files.now) (plain_token token.entry)))) }
+{
+    push_where(out, b"  in the block: ", files, token)
+}
+
+/// Where a name was met before, by what the rule says that it was met as.
+pub fn push_met(
+    out: &mut Vec<u8>,
+    files: &[File],
+    rule: MeaningRule,
+    token: Token,
+) -> Result<(), AllocError>
+    ensures { OnOk result (out.new.items ≡ out.old.items ++ detail_text
+        (met_as rule (token_place (map plain_file files.now) (plain_token token.entry)))) }
+{
+    match rule {
+        MeaningRule::M4 | MeaningRule::M5 => push_where(out, b"  labelled: ", files, token),
+        MeaningRule::M9 => push_where(out, b"  before: ", files, token),
+        MeaningRule::M12 | MeaningRule::M13 => push_where(out, b"  typed: ", files, token),
+        _ => push_where(out, b"  declared: ", files, token),
+    }
+}
+
+/// Where a hypothesis is stated.
+pub fn push_stated_at(out: &mut Vec<u8>, files: &[File], token: Token) -> Result<(), AllocError>
+    ensures { OnOk result (out.new.items ≡ out.old.items ++ detail_text
+        (stated_at (token_place (map plain_file files.now) (plain_token token.entry)))) }
+{
+    push_where(out, b"  stated: ", files, token)
+}
+
+/// Where the block ends in which it stands.
+pub fn push_block_end(out: &mut Vec<u8>, files: &[File], token: Token) -> Result<(), AllocError>
+    ensures { OnOk result (out.new.items ≡ out.old.items ++ detail_text
+        (block_ended_at (token_place (map plain_file files.now) (plain_token token.entry)))) }
+{
+    push_where(out, b"  its block ends: ", files, token)
+}
+
+/// Where a hypothesis of the theorem itself is stated, and its label.
+#[tactic(auto, using(crate::proofs::DetailTexts::three_groups))]
+pub fn push_hypothesis_at(
+    out: &mut Vec<u8>,
+    files: &[File],
+    place: Place,
+    label: &[u8],
+) -> Result<(), AllocError>
+    ensures { OnOk result (out.new.items ≡ out.old.items ++ detail_text
+        (hypothesis_at (place_text (map plain_file files.now) place) label.now)) }
+{
+    out.extend_from_slice(b"    ")?;
+    push_place(out, files, place)?;
+    push_between(out, b" ", label, b"\n")
+}

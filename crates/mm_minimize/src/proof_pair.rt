@@ -1,0 +1,49 @@
+//! A theorem's own proof beside a shorter one.
+
+ghost use Rattle.std.specs.Prelude.{◌≡◌, IfOk, IfErr, IfSome};
+ghost use Rattle.mm_base.specs.Statement.{plain_statement};
+ghost use Rattle.mm_rules.specs.declared.ask.AskFault.TheVariants.{Memory};
+ghost use Rattle.mm_minimize.specs.Mirror.AllShortening.{IsShorterFor};
+ghost use Rattle.mm_verdict.specs.Mirror.Rereading.{IsTheoremIn};
+ghost use Rattle.mm_minimize.specs.Mirror.Shortening.{KnowsDatabase};
+
+use crate::search::Search;
+use crate::shortening::{Shortening, Shorter};
+use mm_base::Statement;
+use mm_frame::LabelId;
+use mm_render::{OwnProof, own_small_proof};
+use mm_rules::AskFault;
+use std::alloc::Global;
+
+/// A theorem's own proof, and a shorter one.
+#[derive(Drop)]
+pub struct Compared {
+    pub own: OwnProof,
+    pub new: Shorter,
+}
+
+/// The proof of the theorem with a number, whose statement this is, as it was read again, and a
+/// shorter one, where a search finds one.
+pub(crate) fn shorter_proof<'a, S: Search>(
+    alloc: Global,
+    shortening: &Shortening<'_, 'a>,
+    statement: &Statement,
+    id: LabelId,
+    search: &mut S,
+) -> Result<Option<Compared>, AskFault>
+    requires theorem { IsTheoremIn shortening.now.checked.now.files id.0
+        (plain_statement statement.now) }
+    requires known { KnowsDatabase shortening.now }
+    ensures shorter { IfOk result (λ found. IfSome found
+        (IsShorterFor shortening.now.checked.now id.0 (plain_statement statement.now))) }
+    ensures memory { IfErr result (λ fault. fault ≡ Memory) }
+{
+    let checked = shortening.checked;
+    let theorem = checked.theorem_at(alloc, statement, id)?;
+    let own = own_small_proof(alloc, checked, &theorem)?;
+    let found = shortening.found(alloc, &theorem, &own, search)?;
+    match found {
+        Some(new) => Ok(Some(Compared { own, new })),
+        None => Ok(None),
+    }
+}

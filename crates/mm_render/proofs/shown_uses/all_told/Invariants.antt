@@ -1,6 +1,0 @@
--- So many are told.
-use Rattle.std.proofs.Common.{◌≡◌, replicate, true}
-use Rattle.mm_render.proofs.shown_uses.all_told.Given as goal
-
-abbrev pub invariant-loop : goal.invariant-loop
-invariant-loop l = l.told.items ≡ replicate l.counter true
