@@ -57,13 +57,12 @@ P7: a `Z` comes before any step.
 P8: the step's assertion has more mandatory hypotheses than the stack holds entries.
 P9: the entry that the step takes for a `$f` doesn't begin with the type code of that `$f`.
 P10: the entry that the step takes for an `$e` isn't that `$e` with its variables replaced.
-P11: the step replaces two variables that its assertion keeps distinct by expressions that \
-     share a variable.
-P12: the step replaces two variables that its assertion keeps distinct, and a variable of the \
-     one replacement and a variable of the other aren't an active distinct pair where the `$p` \
-     stands.
-L1: a step pushes an expression of more than 1,048,576 symbols, its type code counted; under \
-     the strict profile, of more than 16,777,216.
+P11: the step replaces two disjoint variables of its assertion by expressions that share a \
+     variable.
+P12: the step replaces two disjoint variables of its assertion, and a variable of the one \
+     replacement and a variable of the other aren't an active disjoint pair where the `$p` stands.
+L1: a step, also one by a hypothesis, pushes an expression of more than 1,048,576 symbols, its \
+     type code counted; under the strict profile, of more than 16,777,216.
 P13: at the end of a complete proof the stack doesn't hold exactly one entry.
 P14: the one entry at the end of a complete proof isn't the expression of the `$p`.
 A1: no statement has the asked label.

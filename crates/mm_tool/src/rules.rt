@@ -27,8 +27,7 @@ Remedy: name each file once.
         code: "F3",
         text: "F3: the files hold more than 1,073,741,824 bytes in all.
 It has no place. Reply: `load F3`
-Usual cause: several databases were handed in at once, or a file that is no
-database.
+Usual cause: several databases were handed in, or a file that is no database.
 Remedy: hand in the files of one database alone.
 ",
     },
@@ -45,12 +44,11 @@ const TEXT: &[RuleText<'static>] = &[
 token.
 Usual cause: an accented letter, a typographic quote or a dash was typed or
 pasted.
-Remedy: write the token with ASCII characters alone, in a comment too; such
-bytes are found by `LC_ALL=C grep -anP '[^\\t\\r\\f -~]' FILE`.
+Remedy: write the token with ASCII characters alone; such bytes are found by
+`LC_ALL=C grep -anP '[^\\t\\r\\f -~]' FILE`.
 
 This file breaks it:
     $c é $.
-Here it holds the two bytes 0xC3 and 0xA9.
 
 The reply:
     no f.mm 1 - X1 0
@@ -60,7 +58,7 @@ The reply:
         code: "X2",
         text: "X2: a file ends in a comment. Place: the `$(`.
 Usual cause: the `$)` of the file's last comment is missing.
-Remedy: end the comment with `$)`, with white space before the `$)`.
+Remedy: end the comment with `$)`, with white space before it.
 
 This file breaks it:
     $c a $.
@@ -86,7 +84,7 @@ The reply:
     RuleText {
         code: "X4",
         text: "X4: `$)` stands outside a comment, or `$]` outside an inclusion. Place: that
-token. So `$)` is X4 between `$[` and `$]` too.
+token.
 Usual cause: a comment or an inclusion was closed twice, or its `$(` or `$[` is
 missing or touches a word.
 Remedy: delete the token, or write the missing `$(` or `$[` with white space on
@@ -117,11 +115,10 @@ The reply:
     },
     RuleText {
         code: "X6",
-        text: "X6: `$[` stands in a block or in a statement. Place: the `$[`. It is reported at
-once: the inclusion need not be whole, nor its file be handed in.
+        text: "X6: `$[` stands in a block or in a statement. Place: the `$[`. The inclusion
+need not be whole, nor its file be handed in.
 Usual cause: a statement or a block before the inclusion isn't closed.
-Remedy: close the statement or the block, or move the inclusion to where none is
-open.
+Remedy: close it, or move the inclusion to where none is open.
 
 This file breaks it:
     ${ $[ a.mm $] $}
@@ -133,11 +130,10 @@ The reply:
     RuleText {
         code: "X7",
         text: "X7: the name of a whole inclusion was not handed in. Place: the name.
-Usual cause: the included file wasn't handed in, or was handed in under another
-name, as with a folder before it.
-Remedy: hand the file in under the very name that stands in `$[ $]`, from the
-folder in which that file lies, or write in `$[ $]` the name under which it is
-handed in: no path is resolved.
+Usual cause: the included file wasn't handed in, or was under another name, as
+with a folder before it.
+Remedy: hand the file in under the very name that stands in `$[ $]`, or write
+there the name under which it is handed in: no path is resolved.
 
 This file breaks it:
     $[
@@ -167,8 +163,8 @@ The reply:
         text: "X9: a token outside comments and inclusions holds `$` and is no keyword. Place:
 that token.
 Usual cause: a keyword is misspelled or touches a word, as in `b$.`.
-Remedy: write white space before and after each keyword; in a text for `mm try`
-or `mm same`, write only what stands between `$=` and `$.`.
+Remedy: write white space around each keyword; in a text for `mm try` or `mm
+same`, write only what stands between `$=` and `$.`.
 
 This file breaks it:
     $c a $.
@@ -257,7 +253,7 @@ symbol. Place: that token. A `$d` needs two symbols, a `$f` exactly two, the
 others one.
 Usual cause: a symbol is left out, or a `$f` gives more than a type code and a
 variable.
-Remedy: write the symbols that are missing, or delete those that are too many.
+Remedy: write the missing symbols, or delete those that are too many.
 
 This file breaks it:
     $c $.
@@ -282,8 +278,8 @@ The reply:
     },
     RuleText {
         code: "S7",
-        text: "S7: the top file ends and a block is open. Place: the innermost open `${`. It
-may stand in an included file.
+        text: "S7: the top file ends and a block is open. Place: the innermost open `${`,
+perhaps in an included file.
 Usual cause: the `$}` of the block is missing.
 Remedy: write the `$}` where the block ends.
 
@@ -292,7 +288,6 @@ This file breaks it:
     ${
     ${
     $}
-Here it is the one in line 2.
 
 The reply:
     no f.mm 2 - S7 0
@@ -310,7 +305,7 @@ const MEANING: &[RuleText<'static>] = &[
         text: "M1: a `$c` stands in a block.
 Line: that where the statement begins; `mm why` tells the place in it.
 Usual cause: the `$}` of a block before is missing, or a constant was declared
-beside the hypotheses that use it.
+in the block that uses it.
 Remedy: close the block before the `$c`, or move the `$c` out of it.
 
 This file breaks it:
@@ -328,8 +323,7 @@ The reply:
 or not; or it stands twice in the `$c`.
 Line: that where the statement begins; `mm why` tells the place in it.
 Usual cause: two places of the database declare the same symbol.
-Remedy: delete one of the two declarations, or give one of the symbols another
-name.
+Remedy: delete one of the two declarations, or rename one of the symbols.
 
 This file breaks it:
     $c a $. $v x $.
@@ -346,7 +340,7 @@ twice in the `$v`.
 Line: that where the statement begins; `mm why` tells the place in it.
 Usual cause: the variable is declared in the same block before, or in one around
 it.
-Remedy: delete the second declaration, or give the variable another name.
+Remedy: delete the second declaration, or rename the variable.
 
 This file breaks it:
     $v x x $.
@@ -360,7 +354,7 @@ The reply:
         text: "M4: a symbol of a `$c` or `$v` equals an earlier label.
 Line: that where the statement begins; `mm why` tells the place in it.
 Usual cause: a statement has the name of a symbol that is declared further down.
-Remedy: give the symbol or the statement another name.
+Remedy: rename the symbol or the statement.
 
 This file breaks it:
     $c a $. p $a a $.
@@ -374,8 +368,8 @@ The reply:
         code: "M5",
         text: "M5: the label equals an earlier label, also one in a closed block.
 Line: that where the statement begins; `mm why` tells the place in it.
-Usual cause: a statement was copied, and its label wasn't changed, or another
-label was written over the statement's own.
+Usual cause: a statement was copied without changing its label, or another label
+was written over its own.
 Remedy: give the statement a label that no other has in the whole database.
 
 This file breaks it:
@@ -408,7 +402,7 @@ Line: that where the statement begins; `mm why` tells the place in it.
 Usual cause: the symbol is misspelled, touches another as in `(x`, or was
 declared in a block that is closed.
 Remedy: spell the symbol as its declaration does, with white space around it, or
-declare it before the statement.
+declare it before.
 
 This file breaks it:
     $c a $. p $a a z $.
@@ -421,8 +415,7 @@ The reply:
         code: "M8",
         text: "M8: a member of a `$d` is a constant.
 Line: that where the statement begins; `mm why` tells the place in it.
-Usual cause: a constant has a name that is like that of the variable that was
-meant.
+Usual cause: a constant has a name like that of the variable that was meant.
 Remedy: name variables alone in a `$d`.
 
 This file breaks it:
@@ -548,7 +541,7 @@ const PROOFS: &[RuleText<'static>] = &[
     RuleText {
         code: "P1",
         text: "P1: the first token of a complete proof is `(`, and there is no `)` among the
-others. Step 0.
+others.
 Line: that where the statement begins; `mm why` tells the place in the proof.
 Usual cause: the `)` after the listed labels is missing, or touches a word.
 Remedy: write the `)` between the labels and the letters, with white space on
@@ -565,13 +558,12 @@ The reply:
     RuleText {
         code: "P2",
         text: "P2: the proof names a label, in a normal proof or in the list of a compressed
-one, that isn't that of a statement before this `$p`. Step 0, whatever the steps
-before it do, and whether or not a listed label is used.
+one, that isn't that of a statement before this `$p`. Listed labels that no step
+uses count too.
 Line: that where the statement begins; `mm why` tells the place in the proof.
 Usual cause: a label is misspelled, or is that of a statement further down.
-Remedy: `mm why` tells where the label stands, and one that is near: spell each
-label of the proof as its statement does, or move the theorem below the
-statements that it uses.
+Remedy: `mm why` reports where the label stands, and one that is near: spell the
+label as its statement does, or move the theorem below that.
 
 This file breaks it:
     $c a $. p $p a $= p $.
@@ -582,7 +574,7 @@ The reply:
     },
     RuleText {
         code: "P3",
-        text: "P3: a label is that of a hypothesis that isn't active. Step 0.
+        text: "P3: a label is that of a hypothesis that isn't active.
 Line: that where the statement begins; `mm why` tells the place in the proof.
 Usual cause: the proof uses a hypothesis of another theorem, whose block is
 closed.
@@ -600,7 +592,7 @@ The reply:
     },
     RuleText {
         code: "P4",
-        text: "P4: a byte of the letters isn't one of `A` to `Z`. Step 0.
+        text: "P4: a byte of the letters isn't one of `A` to `Z`.
 Line: that where the statement begins; `mm why` tells the place in the proof.
 Usual cause: a label stands after the `)`, or a small letter or another
 character came among the letters.
@@ -617,7 +609,7 @@ The reply:
     RuleText {
         code: "P5",
         text: "P5: leading digits are followed by `Z`, by the end of the letters, or by a `?`.
-Step 0.
+White space may cut a number.
 Line: that where the statement begins; `mm why` tells the place in the proof.
 Usual cause: letters were lost as the proof was copied.
 Remedy: copy the letters again, or replace the proof.
@@ -634,14 +626,13 @@ The reply:
         code: "P15",
         text: "P15: under the strict profile, the list of a compressed proof names a mandatory
 hypothesis, or a label twice; or a `Z` doesn't stand directly after a number of
-a listed label that is an assertion's. Step 0; it is judged over the whole
-proof, after P5.
+a listed label that is an assertion's.
 Line: that where the statement begins; `mm why` tells the place in the proof.
 Usual cause: the program that wrote the proof tags hypotheses, or lists a label
 that has a number already.
-Remedy: write the proof anew by `mm packed --file`, or each complete proof of a
-file by `mm packed --all`: both keep to the strict form. An incomplete proof,
-and one whose expressions pass the lenient limit, has to be mended by hand.
+Remedy: rewrite the proof by `mm packed --file`, or each complete proof of a
+file by `mm packed --all`. An incomplete proof, and one whose expressions pass
+the lenient limit, has to be mended by hand.
 
 This file breaks it:
     $c a $. one $a a $.
@@ -658,7 +649,7 @@ The reply to `mm check --strict f.mm`:
 listed labels and t tags so far.
 Line: that where the statement begins; `mm why` tells the place in the proof.
 Usual cause: a label is missing in the list, or a `Z` in the letters, or
-hypotheses of the theorem were removed after the proof was made.
+hypotheses of the theorem were removed.
 Remedy: restore the labels and hypotheses that the letters number, or replace
 the proof.
 
@@ -673,8 +664,7 @@ The reply:
     },
     RuleText {
         code: "P7",
-        text: "P7: a `Z` comes before any step. Step 1, and it is judged before P6 there. Under
-the strict profile it is P15.
+        text: "P7: a `Z` comes before any step. Under the strict profile it is P15.
 Line: that where the statement begins; `mm why` tells the place in the proof.
 Usual cause: letters were lost at the beginning as the proof was copied.
 Remedy: copy the letters again, or delete the `Z`.
@@ -692,16 +682,14 @@ The reply:
         text: "P8: the step's assertion has more mandatory hypotheses than the stack holds
 entries.
 Line: that where the statement begins; `mm why` tells the place in the proof.
-Usual cause: a step, or in a compressed proof a letter or a listed label, is
-missing, too many or swapped, perhaps many steps before; or the theorem has
-fewer hypotheses than when it was proved.
+Usual cause: a step, a letter or a listed label is missing, too many or swapped,
+perhaps many steps before; or hypotheses of the theorem were removed.
 Remedy: write the steps for all mandatory hypotheses of the assertion, in their
 order, before the step.
 
 This file breaks it:
     $c a b $. $v x $. fx $f a x $. one $a a b $. two $a a x x $.
     p $p a b b $= two one $.
-Here `two` has one, `fx`.
 
 The reply:
     no f.mm 2 p P8 1
@@ -712,18 +700,16 @@ The reply:
         text: "P9: the entry that the step takes for a `$f` doesn't begin with the type code of
 that `$f`.
 Line: that where the statement begins; `mm why` tells the place in the proof.
-Usual cause: a step, or in a compressed proof a letter or a listed label, is
-missing, too many or swapped, perhaps many steps before; or the theorem has
-other hypotheses or variables than when it was proved, as where a `$}` before it
-is missing.
-Remedy: `mm why` shows what each hypothesis of the assertion asks beside the
-entry that it gets, and `mm show --known` lists the steps up to there: change
-the step that gives another type, or write the one that is missing.
+Usual cause: a step, a letter or a listed label is missing, too many or swapped,
+perhaps many steps before; or the theorem's hypotheses were changed, as where a
+`$}` before it is missing.
+Remedy: `mm why` shows what each hypothesis asks beside the entry that it gets,
+`mm show --known` the steps up to there: change the step that gives another
+type, or write the one that is missing.
 
 This file breaks it:
     $c a b $. $v x $. fx $f a x $. one $a b $. two $a a x x $.
     p $p a $= one two $.
-Here `a` is asked for, and the entry is `b`.
 
 The reply:
     no f.mm 2 p P9 2
@@ -734,10 +720,9 @@ The reply:
         text: "P10: the entry that the step takes for an `$e` isn't that `$e` with its
 variables replaced.
 Line: that where the statement begins; `mm why` tells the place in the proof.
-Usual cause: the hypothesis that the assertion wants isn't what the proof gives:
-a wrong theorem or a wrong replacement of a variable stands in the proof; a
-step, a letter or a listed label is missing, too many or swapped, perhaps many
-steps before; or a `$e` was changed, of the theorem or of the assertion.
+Usual cause: a wrong theorem or replacement of a variable; a step, a letter or a
+listed label that is missing, too many or swapped, perhaps many steps before; or
+a changed `$e`, of the theorem or of the assertion.
 Remedy: `mm why` shows what each hypothesis asks beside the entry that it gets,
 and from which symbol on they differ: change the step that proves the
 hypothesis, or the step that replaces the variable.
@@ -756,11 +741,11 @@ The reply:
     },
     RuleText {
         code: "P11",
-        text: "P11: the step replaces two variables that its assertion keeps distinct by
-expressions that share a variable.
+        text: "P11: the step replaces two disjoint variables of its assertion by expressions
+that share a variable.
 Line: that where the statement begins; `mm why` tells the place in the proof.
-Usual cause: the proof puts a variable into two places of which the assertion's
-`$d` says that they have none in common.
+Usual cause: the proof puts a variable into two places that the assertion's `$d`
+keeps disjoint.
 Remedy: put another variable into one of the two places, or use an assertion
 without the `$d`.
 
@@ -776,14 +761,13 @@ The reply:
     },
     RuleText {
         code: "P12",
-        text: "P12: the step replaces two variables that its assertion keeps distinct, and a
-variable of the one replacement and a variable of the other aren't an active
-distinct pair where the `$p` stands.
+        text: "P12: the step replaces two disjoint variables of its assertion, and a variable
+of the one replacement and a variable of the other aren't an active disjoint
+pair where the `$p` stands.
 Line: that where the statement begins; `mm why` tells the place in the proof.
 Usual cause: a `$d x y $.` is missing, or several are.
-Remedy: add the `$d` statements that `mm why` names before the theorem, in its
-block: they are all that the whole proof lacks, up to the first step that breaks
-another rule.
+Remedy: add the `$d` statements that `mm why` lists before the theorem, in its
+block: all that the proof lacks up to the first step that breaks another rule.
 
 This file breaks it:
     $c a |- $. $v x y $. fx $f a x $. fy $f a y $.
@@ -797,8 +781,9 @@ The reply:
     },
     RuleText {
         code: "L1",
-        text: "L1: a step pushes an expression of more than 1,048,576 symbols, its type code
-counted; under the strict profile, of more than 16,777,216.
+        text: "L1: a step, also one by a hypothesis, pushes an expression of more than
+1,048,576 symbols, its type code counted; under the strict profile, of more than
+16,777,216.
 Line: that where the statement begins; `mm why` tells the place in the proof.
 Usual cause: each of many steps repeats the expression of the step before.
 Remedy: prove the theorem by lemmas with shorter expressions.
@@ -818,9 +803,9 @@ The reply:
         text: "P13: at the end of a complete proof the stack doesn't hold exactly one entry. An
 empty proof leaves none, and its step is 1.
 Line: that where the statement begins; `mm why` tells the place in the proof.
-Usual cause: a step at the end is missing, a step anywhere before is one too
-many, a letter is wrong, or a block before the theorem isn't closed, so that it
-has one more hypothesis.
+Usual cause: a step at the end is missing, one before is too many, a letter is
+wrong, or a block before the theorem isn't closed, so that it has one more
+hypothesis.
 Remedy: `mm why` lists the entries that are left, each with the step that made
 it: write the step that joins them, delete the step that is too many, or close
 the block with `$}`.
@@ -904,8 +889,8 @@ The reply to `mm show p f.mm`:
     },
     RuleText {
         code: "L2",
-        text: "L2: the normal proof of the asked `$p` has more than 16,777,216 labels. It is
-judged after A1 to A3, for `mm normal` alone.
+        text: "L2: the normal proof of the asked `$p` has more than 16,777,216 labels. Only `mm
+normal` judges it.
 Usual cause: the compressed proof shares parts that the normal one has to
 repeat.
 Remedy: ask for the packed proof, by `mm packed`.
