@@ -76,7 +76,7 @@ stages_of_sources() {
     stage 'lack of memory is told where it was met' scripts/memory.sh
     stage 'each file of definitions and of lemmas says what it has' scripts/heads --check
     stage 'no crate and no chain of crates is too large' scripts/chain --check
-    stage 'the laws of docs/PROVED.md are those of the sources' scripts/contracts --check
+    stage 'docs/CONTRACTS.md is that of the sources' scripts/contracts --check
     stage 'the figure of the crates is that of the sources' scripts/figure --check
     stage 'the edits that the gate does not try can be applied' scripts/edits --check
     stage 'the launcher runs, builds and proves what it should' scripts/launcher.sh

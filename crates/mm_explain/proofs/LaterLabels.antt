@@ -1,5 +1,5 @@
 -- Labels that are stated further down: that the labels of all statements are listed, which of those
--- behind a statement is found, and for which label that is asked. `later.rt` and `why.rt` rest on
+-- behind a statement is found, and for which label that is asked. `forward_reference.rt` and `why.rt` rest on
 -- it.
 use Rattle.std.proofs.Common.{◌≡◌, ℕ, suc, ◌+◌, List, [], ◌∷◌, ◌++◌, map, take, drop, length}
 use Rattle.std.proofs.Common.{◌==◌, ◌<◌, arith, true, false, rules, get_or, slice_get, Vec, vec_len, Bool, Option, Some, None, option_map, inl, inr, refl}
