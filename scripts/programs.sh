@@ -128,8 +128,8 @@ run_rt() {
     echo "mm: $place: $(($(date +%s) - start)) s" >&2
 }
 
-# Proves and builds the proved program, a crate after the other. What is proved is kept by rt: it
-# goes on where an earlier run was interrupted.
+# Proves and builds the proved program: its libraries side by side, and then the program. What is
+# proved is kept by rt: it goes on where an earlier run was interrupted.
 prove() {
     "$top/scripts/logic" --check || echo 'mm: so a proof may be refused here' >&2
     cores=$(getconf _NPROCESSORS_ONLN 2>/dev/null || echo 1)
@@ -137,19 +137,16 @@ prove() {
     began=$(mktemp)
     child=
     trap 'rm -f "$log" "$began" "$proved.$$"' EXIT
-    trap '[ -z "$child" ] || kill "$child" 2>/dev/null || :
+    trap '[ -z "$child" ] || { kill "$child" 2>/dev/null; wait "$child"; } || :
         [ ! -t 2 ] || echo >&2
         give_up "interrupted. What is proved is kept: the next proof goes on there"' HUP INT TERM
-    count=0
-    for crate in $(crates); do
-        count=$((count + 1))
-        place="crate $count of $(crates | wc -l | tr -d ' '), $crate"
-        if [ "$crate" = mm_tool ]; then
-            run_rt run --jobs "$cores" -- help
-        else
-            run_rt lib --jobs "$cores"
-        fi
-    done
+    "$top/scripts/prove" $(crates | sed '$d') &
+    child=$!
+    wait "$child" || give_up 'a library is not proved'
+    crate=mm_tool
+    count=$(crates | wc -l | tr -d ' ')
+    place="crate $count of $count, $crate"
+    run_rt run --jobs "$cores" -- help
     name_built "$top/crates/mm_tool/out/mm_tool" "$proved"
     rm -f "$log" "$began"
     trap - EXIT HUP INT TERM
