@@ -1,7 +1,7 @@
 -- Where a proof breaks a rule that is judged over the whole of it (the Metamath book, sections 4.3
 -- and 4.4.3, appendix B). That a fault is told there is this project's own.
 use Rattle.std.specs.Prelude.{◌≡◌, ℕ, ◌+◌, ◌<◌, List, ◌∷◌, ◌++◌, length, take, slice_get, Some, ◌⊎◌}
-use Rattle.std.specs.Prelude.{All}
+use Rattle.std.specs.Prelude.{All, Contains}
 use Rattle.std.specs.List.{flat_map, AllByRecursion}
 use Rattle.mm_code.specs.declared.code.Code.{Code}
 use Rattle.mm_code.specs.Letters.{Letters, IsLetter, IsLeadingLetter, IsEndOrTag}
@@ -14,21 +14,25 @@ use Rattle.mm_proof.specs.Tokens.{IsNormal, IsCompressed, SaysCompressed}
 use Rattle.mm_places.specs.Places.{IsMovePlace}
 use Rattle.mm_proof.specs.WholePlaces.{IsLooseMark, IsSpareLabel}
 
--- The label stands at a token: each token of a normal proof is one, and so is each of the list of a
--- compressed one.
-abbrev pub IsLabelAt : (tokens : List (List ℕ)) → (token : ℕ) → (label : List ℕ) → Type 0
-IsLabelAt tokens token label =
-    (IsNormal tokens × (slice_get tokens token ≡ Some label))
-    ⊎ ((labels : List (List ℕ)) × (letters : List (List ℕ)) × IsCompressed tokens labels letters
-    × (index : ℕ) × (token ≡ index + 1) × (slice_get labels index ≡ Some label))
+-- These are the labels of the tokens, and the first stands at a token: all tokens of a normal proof
+-- are labels, and those of the list of a compressed one, which follow the `(`.
+abbrev pub AreLabelsFrom : (tokens : List (List ℕ)) → (token : ℕ) → (labels : List (List ℕ))
+    → Type 0
+AreLabelsFrom tokens token labels =
+    (IsNormal tokens × (token ≡ 0) × (labels ≡ tokens))
+    ⊎ ((letters : List (List ℕ)) × IsCompressed tokens labels letters × (token ≡ 1))
 
 -- the first label that is so stands at the token
 pub record IsFirstLabel (Is : List ℕ → Type 0) (tokens : List (List ℕ)) (token : ℕ) : Type 0 where
+  pub from : ℕ
+  pub labels : List (List ℕ)
+  pub are : AreLabelsFrom tokens from labels
+  pub index : ℕ
+  pub stands : token ≡ from + index
   pub label : List ℕ
-  pub there : IsLabelAt tokens token label
+  pub there : slice_get labels index ≡ Some label
   pub so : Is label
-  pub first : (earlier : ℕ) (other : List ℕ) → earlier < token → IsLabelAt tokens earlier other
-      → ¬ (Is other)
+  pub first : (other : List ℕ) → Contains (take index labels) other → ¬ (Is other)
 
 -- no earlier statement has the label
 abbrev pub IsUnknownLabel : List Sentence → List ℕ → Type 0

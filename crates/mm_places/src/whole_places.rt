@@ -10,22 +10,21 @@ ghost use Rattle.mm_code.specs.Letters.{IsLetter, LettersBreak};
 ghost use Rattle.mm_frame.specs.Form.{IsSound};
 ghost use Rattle.mm_frame.specs.Numbers.{IsNumbered};
 ghost use Rattle.mm_frame.specs.Sentence.{Sentence};
-ghost use Rattle.mm_step.specs.declared.fault.ProofRule.TheVariants.{P2, P3};
 ghost use Rattle.mm_step.specs.declared.profile.Profile.{Profile};
 ghost use Rattle.mm_proof.specs.declared.labels.Use.TheVariants.{Unknown, Idle};
 ghost use Rattle.mm_proof.specs.KnownPrefix.{known_prefix};
 ghost use Rattle.mm_proof.specs.Parsed.{OfProof};
 ghost use Rattle.mm_step.specs.Plain.{token_texts};
-ghost use Rattle.mm_proof.specs.Proof.{BreaksWhole};
 ghost use Rattle.mm_step.specs.Steps.{IsProofNumber};
 ghost use Rattle.mm_proof.specs.Strict.{IsTextFault};
 ghost use Rattle.mm_proof.specs.Tokens.{IsIncomplete, AreLabels, AreLetters, IsCompressed};
-ghost use Rattle.mm_places.specs.WholePlaces.{IsWholePlace};
-ghost use Rattle.mm_places.specs.Mirror.CodeWhole.{AreLabelsFrom, IsBlamed, IsBegun, IsBehind};
-ghost use Rattle.mm_places.specs.Mirror.CodeWhole.{IsCutAt, IsByteOf, BreakLetters, IsFaultIndex};
+ghost use Rattle.mm_places.specs.WholePlaces.{AreLabelsFrom, IsFirstLabel, IsWholePlace};
+ghost use Rattle.mm_places.specs.Mirror.CodeWhole.{HasBlamed, IsBlamed, IsBegun, IsBehind};
+ghost use Rattle.mm_places.specs.Mirror.CodeWhole.{IsCutAt, IsByteOf, IsFaultIndex, rule_of};
 
 use crate::form_places::form_place;
 use mm_base::Token;
+use mm_code::CodeRule;
 use mm_frame::{Book, Frame, Guesses, LabelId};
 use mm_proof::{Use, begins_list, is_incomplete, known_prefix, parts, tokens_with, use_of};
 use mm_step::ProofRule;
@@ -46,6 +45,15 @@ fn labels_of<'t, 'a>(tokens: &'t [Token<'a>]) -> (usize, &'t [Token<'a>])
     }
 }
 
+/// What a label of a proof is blamed for.
+#[derive(Clone, Copy)]
+enum Blame {
+    /// No statement before the proof's own has it: P2.
+    Unknown,
+    /// A hypothesis that isn't active has it: P3.
+    Idle,
+}
+
 // Whether no statement before the proof's own has the label that stands for this.
 fn is_unknown(found: Use) -> bool
     ensures { IsTrue result ↔ (found ≡ Unknown) }
@@ -60,41 +68,40 @@ fn is_idle(found: Use) -> bool
     matches!(found, Use::Idle)
 }
 
-// Whether the rule blames the label.
+// Whether the label is to blame.
 fn is_blamed(
     book: &Book,
     guesses: &mut Guesses,
     own: &Frame,
     id: LabelId,
     label: &[u8],
-    rule: ProofRule,
+    blame: Blame,
 ) -> bool
     requires sound { IsSound book.now.statements }
     requires book { own.now.statements ≡ book.now.statements }
     requires own { (s : Sentence) × IsNumbered book.now.statements id.0 own.now.index s }
-    ensures { IsTrue result ↔ IsBlamed rule book.now.statements own.now.index label.now }
+    ensures { IsTrue result ↔ IsBlamed blame book.now.statements own.now.index label.now }
 {
     let found = use_of(book, guesses, own, id, label);
-    match rule {
-        ProofRule::P2 => is_unknown(found),
-        ProofRule::P3 => is_idle(found),
-        _ => false,
+    match blame {
+        Blame::Unknown => is_unknown(found),
+        Blame::Idle => is_idle(found),
     }
 }
 
-// The index of the first of the labels that the rule blames.
+// The index of the first of the labels that is to blame.
 fn first_blamed(
     alloc: Global,
     book: &Book,
     own: &Frame,
     id: LabelId,
     labels: &[Token],
-    rule: ProofRule,
+    blame: Blame,
 ) -> Option<usize>
     requires sound { IsSound book.now.statements }
     requires book { own.now.statements ≡ book.now.statements }
     requires own { (s : Sentence) × IsNumbered book.now.statements id.0 own.now.index s }
-    ensures { let blamed = IsBlamed rule book.now.statements own.now.index in
+    ensures { let blamed = IsBlamed blame book.now.statements own.now.index in
         MatchOption
         result
         ((label : List ℕ) → Contains (token_texts labels.now) label → ¬ (blamed label))
@@ -105,35 +112,33 @@ fn first_blamed(
 {
     let mut guesses = Guesses::new(alloc);
     for (index, label) in labels.iter().enumerate() {
-        if is_blamed(book, &mut guesses, own, id, label.text, rule) {
+        if is_blamed(book, &mut guesses, own, id, label.text, blame) {
             return Some(index);
         }
     }
     None
 }
 
-// The place of the first label that the rule blames.
-fn label_place(
+// The index of the token that is the first label to blame.
+fn label_index(
     alloc: Global,
     book: &Book,
     own: &Frame,
     id: LabelId,
     tokens: &[Token],
-    rule: ProofRule,
-) -> (usize, usize)
+    blame: Blame,
+) -> usize
     requires sound { IsSound book.now.statements }
     requires book { own.now.statements ≡ book.now.statements }
     requires own { (s : Sentence) × IsNumbered book.now.statements id.0 own.now.index s }
-    requires rule { (rule ≡ P2) ⊎ (rule ≡ P3) }
-    requires broken { BreaksWhole rule (take own.now.index book.now.statements)
-        (token_texts tokens.now) }
-    ensures { (s : Sentence) → IsWholePlace (take own.now.index book.now.statements) s
-        (token_texts tokens.now) rule result.0 result.1 }
+    requires blamed { HasBlamed blame book.now.statements own.now.index (token_texts tokens.now) }
+    ensures { IsFirstLabel (IsBlamed blame book.now.statements own.now.index)
+        (token_texts tokens.now) result }
 {
     let (base, labels) = labels_of(tokens);
-    match first_blamed(alloc, book, own, id, labels, rule) {
-        Some(index) => (base + index, 0),
-        // The rule is broken by a label.
+    match first_blamed(alloc, book, own, id, labels, blame) {
+        Some(index) => base + index,
+        // Some label is to blame.
         None => unreachable!(),
     }
 }
@@ -218,17 +223,17 @@ fn cut_index(letters: &[u8]) -> usize
 }
 
 // The index of the letter at which the letters break the rule.
-fn fault_index(letters: &[u8], rule: ProofRule) -> usize
-    requires { BreakLetters rule letters.now }
+fn fault_index(letters: &[u8], rule: CodeRule) -> usize
+    requires { LettersBreak rule letters.now }
     ensures { IsFaultIndex rule letters.now result }
 {
     match rule {
-        ProofRule::P4 => match stray_index(letters) {
+        CodeRule::P4 => match stray_index(letters) {
             Some(index) => index,
             // Some byte is no letter.
             None => unreachable!(),
         },
-        _ => cut_index(letters),
+        CodeRule::P5 => cut_index(letters),
     }
 }
 
@@ -270,11 +275,11 @@ fn letters_of<'t, 'a>(tokens: &'t [Token<'a>]) -> (usize, &'t [Token<'a>])
 fn letter_place(
     alloc: Global,
     tokens: &[Token],
-    rule: ProofRule,
+    rule: CodeRule,
 ) -> Result<(usize, usize), AllocError>
-    requires { (text : List ℕ) × AreLetters (token_texts tokens.now) text × BreakLetters rule text }
+    requires { (text : List ℕ) × AreLetters (token_texts tokens.now) text × LettersBreak rule text }
     ensures { IfOk result (λ place. (before : List Sentence) (s : Sentence)
-        → IsWholePlace before s (token_texts tokens.now) rule place.0 place.1) }
+        → IsWholePlace before s (token_texts tokens.now) (rule_of rule) place.0 place.1) }
 {
     let (base, letters) = letters_of(tokens);
     let text = joined(alloc, letters)?;
@@ -303,10 +308,10 @@ fn place_in(
 {
     match rule {
         ProofRule::P1 => Ok((0, 0)),
-        ProofRule::P2 => Ok(label_place(alloc, book, own, id, tokens, rule)),
-        ProofRule::P3 => Ok(label_place(alloc, book, own, id, tokens, rule)),
-        ProofRule::P4 => letter_place(alloc, tokens, rule),
-        ProofRule::P5 => letter_place(alloc, tokens, rule),
+        ProofRule::P2 => Ok((label_index(alloc, book, own, id, tokens, Blame::Unknown), 0)),
+        ProofRule::P3 => Ok((label_index(alloc, book, own, id, tokens, Blame::Idle), 0)),
+        ProofRule::P4 => letter_place(alloc, tokens, CodeRule::P4),
+        ProofRule::P5 => letter_place(alloc, tokens, CodeRule::P5),
         ProofRule::P15 => form_place(alloc, book, id, tokens),
         // No other rule is judged over the whole of a proof.
         _ => unreachable!(),

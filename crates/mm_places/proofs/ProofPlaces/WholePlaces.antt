@@ -17,6 +17,7 @@ use Rattle.mm_base.proofs.Lists.{contains_from_at, append_cases, all_push, zip_p
 use Rattle.mm_base.proofs.Lists.{cons_parts, get_parted, get_within}
 use Rattle.mm_code.specs.declared.code.Code.{Code}
 use Rattle.mm_code.specs.declared.code.Code.TheVariants.{Number, Tag}
+use Rattle.mm_code.specs.declared.code.CodeRule.{CodeRule}
 use Rattle.mm_code.specs.declared.code.CodeRule.TheVariants as code
 use Rattle.mm_code.specs.Letters.{Letters, SaysCode, IsSpelling, code_for, last_letter}
 use Rattle.mm_code.specs.Letters.{leading_letter, leading_value, IsLeadingDigit, IsLeadingLetter}
@@ -42,67 +43,19 @@ use Rattle.mm_places.specs.Places.{IsMovePlace}
 use Rattle.mm_proof.specs.Proof.{BreaksWhole}
 use Rattle.mm_step.specs.Steps.{IsProofNumber}
 use Rattle.mm_proof.specs.Strict.{IsTextFault}
-use Rattle.mm_places.specs.WholePlaces.{IsLabelAt, IsFirstLabel, IsUnknownLabel, IsIdleLabel}
+use Rattle.mm_places.specs.declared.whole_places.Blame.{Blame}
+use Rattle.mm_places.specs.declared.whole_places.Blame.TheVariants as blame
+use Rattle.mm_places.specs.WholePlaces.{AreLabelsFrom, IsFirstLabel, IsUnknownLabel, IsIdleLabel}
 use Rattle.mm_places.specs.WholePlaces.{IsLetterAt, IsWholePlace}
 use Rattle.mm_step.specs.Mirror.CodeSteps.{MayBeUsed}
 use Rattle.mm_proof.specs.Mirror.CodeSteps.{IsUseOf}
-use Rattle.mm_places.specs.Mirror.CodeWhole.{AreLabelsFrom, IsBlamed, IsBegun, IsCutAt, IsByteOf}
-use Rattle.mm_places.specs.Mirror.CodeWhole.{IsFaultIndex}
+use Rattle.mm_places.specs.Mirror.CodeWhole.{HasBlamed, IsBlamed, IsBegun, IsCutAt, IsByteOf}
+use Rattle.mm_places.specs.Mirror.CodeWhole.{IsFaultIndex, rule_of}
 use Rattle.mm_proof.proofs.ProofTokens.SaidMoves.{normal_or_compressed, compressed_once}
 use Rattle.mm_proof.proofs.ProofTokens.ProofLabels.{texts_more, prefix_all}
 use Rattle.mm_proof.proofs.ProofTokens.ProofLabels.{used_not_idle}
 
 -- ==== labels
-
--- one of the labels stands at its token
-label_at : (tokens : List (List ℕ)) (base : ℕ) (labels : List (List ℕ))
-    → AreLabelsFrom tokens base labels → (index : ℕ) (label : List ℕ)
-    → slice_get labels index ≡ Some label → IsLabelAt tokens (base + index) label
-label_at tokens base labels (inl (normal, none, same)) index label there =
-    let is : base + index ≡ index = omega arith in
-    inl (
-      normal,
-      ap (slice_get tokens) is
-          ∙ ap (λ (ts : List (List ℕ)). slice_get ts index) (sym same) ∙ there,
-    )
-label_at tokens base labels (inr (letters, parts, one)) index label there =
-    inr (labels, letters, parts, index, omega arith, there)
-
--- and what stands at a token as a label is one of them
-at_label : (tokens : List (List ℕ)) (base : ℕ) (labels : List (List ℕ))
-    → AreLabelsFrom tokens base labels → (token : ℕ) (label : List ℕ)
-    → IsLabelAt tokens token label
-    → (index : ℕ) × (token ≡ base + index) × (slice_get labels index ≡ Some label)
-at_label tokens base labels (inl (normal, none, same)) token label (inl (again, there)) =
-    (token, omega arith, ap (λ (ts : List (List ℕ)). slice_get ts token) same ∙ there)
-at_label tokens base labels (inl (normal, none, same)) token label
-    (inr (ls, letters, c, index, is, there)) =
-    absurd (normal_or_compressed tokens ls letters normal c)
-at_label tokens base labels (inr (letters, parts, one)) token label (inl (normal, there)) =
-    absurd (normal_or_compressed tokens labels letters normal parts)
-at_label tokens base labels (inr (letters, parts, one)) token label
-    (inr (ls, others, c, index, is, there)) = (
-      index,
-      omega arith,
-      subst (λ (l : List (List ℕ)). slice_get l index ≡ Some label)
-          (compressed_once tokens ls labels others letters c parts).0 there,
-    )
-
--- the first of the labels that is so stands at the first token that is
-pub first_label : (Is : List ℕ → Type 0) (tokens : List (List ℕ)) (base : ℕ)
-    (labels : List (List ℕ)) → AreLabelsFrom tokens base labels → (index : ℕ) (label : List ℕ)
-    → slice_get labels index ≡ Some label → Is label
-    → ((other : List ℕ) → Contains (take index labels) other → ¬ (Is other))
-    → IsFirstLabel Is tokens (base + index)
-first_label Is tokens base labels are index label there so none = record {
-  label = label;
-  there = label_at tokens base labels are index label there;
-  so = so;
-  first = λ earlier other less at.
-      let (k, is, on) = at_label tokens base labels are earlier other at in
-      none other (contains_from_at (take index labels) other
-      (k, get_in_front labels index k other (omega arith) on));
-}
 
 -- the labels of the tokens are these
 pub same_labels : (tokens : List (List ℕ)) (base : ℕ) (labels others : List (List ℕ))
@@ -309,11 +262,11 @@ never_cut letters (codes, said) broken =
 -- ==== the letter at which they break one
 
 pub place_of_letter : (before : List Sentence) (s : Sentence)
-    (tokens labels letters : List (List ℕ)) (rule : ProofRule) (index piece byte base : ℕ)
+    (tokens labels letters : List (List ℕ)) (rule : CodeRule) (index piece byte base : ℕ)
     → IsCompressed tokens labels letters → base ≡ length labels + 2
     → IsByteOf letters index piece byte → IsFaultIndex rule (joined letters) index
-    → IsWholePlace before s tokens rule (base + piece) byte
-place_of_letter before s tokens labels letters P4 index piece byte base parts is there
+    → IsWholePlace before s tokens (rule_of rule) (base + piece) byte
+place_of_letter before s tokens labels letters code.P4 index piece byte base parts is there
     (letter, at, all, not) =
     let rest = drop (suc index) (joined letters) in (
       take index (joined letters),
@@ -324,7 +277,7 @@ place_of_letter before s tokens labels letters P4 index piece byte base parts is
       all,
       not,
     )
-place_of_letter before s tokens labels letters P5 index piece byte base parts is there
+place_of_letter before s tokens labels letters code.P5 index piece byte base parts is there
     (earlier, digit, digits, later, whole, at, codes, said, all, stops) =
     let front : take index (joined letters) ≡ earlier =
     ap (take index) whole ∙ ap (λ (n : ℕ). take n (earlier ++ digit ∷ (digits ++ later))) at
@@ -341,19 +294,17 @@ place_of_letter before s tokens labels letters P5 index piece byte base parts is
       all,
       stops,
     )
-place_of_letter before s tokens labels letters rule index piece byte base parts is there wrong =
-    absurd wrong
 
 -- the index is that of a byte
-pub index_within : (rule : ProofRule) (letters : List ℕ) (index : ℕ)
+pub index_within : (rule : CodeRule) (letters : List ℕ) (index : ℕ)
     → IsFaultIndex rule letters index → index < length letters
-index_within P4 letters index (letter, at, all, not) = slice_get_within letters index letter at
-index_within P5 letters index
+index_within code.P4 letters index (letter, at, all, not) =
+    slice_get_within letters index letter at
+index_within code.P5 letters index
     (earlier, digit, digits, later, whole, at, codes, said, all, stops) =
     omega (arith, ap length whole, length-append earlier (digit ∷ (digits ++ later)))
-index_within rule letters index wrong = absurd wrong
 
--- ==== labels that a rule blames
+-- ==== labels that are to blame
 
 -- a label that may be used is that of an earlier statement
 used_known : (st : List Sentence) (index : ℕ) (label : List ℕ) (id : ℕ)
@@ -396,55 +347,21 @@ idle_blamed st index label found all stands b told = (
     go (uses.Number id) stands (at, h, there, named, kind, idle) =
         absurd (used_not_idle st index label id.0 all stands at h there named kind idle)
 
--- where P2 or P3 is broken there are labels, one of which it blames
-pub some_labels : (before : List Sentence) (tokens : List (List ℕ)) (rule : ProofRule)
-    → (rule ≡ P2) ⊎ (rule ≡ P3) → BreaksWhole rule before tokens
-    → (labels : List (List ℕ)) × AreLabels tokens labels
-some_labels before tokens P2 is (labels, are, label, has, unknown) = (labels, are)
-some_labels before tokens P3 is (labels, are, label, has, index, h, there, named, kind, idle) =
-    (labels, are)
-some_labels before tokens rule is broken = absurd (neither is)
-  where
-    neither : (rule ≡ P2) ⊎ (rule ≡ P3) → ⊥
-    neither (inl e) = cc
-    neither (inr e) = cc
+-- where P3 is broken, a label is to blame
+pub idle_there : (st : List Sentence) (index : ℕ) (tokens : List (List ℕ))
+    → BreaksWhole P3 (take index st) tokens → HasBlamed blame.Idle st index tokens
+idle_there st index tokens (labels, are, label, has, at, h, there, named, kind, idle) =
+    (labels, are, label, has, (at, h, there, named, kind, idle))
 
-pub some_blamed : (st : List Sentence) (index : ℕ) (tokens : List (List ℕ)) (rule : ProofRule)
+-- it is one of these
+pub some_blamed : (why : Blame) (st : List Sentence) (index : ℕ) (tokens : List (List ℕ))
     (base : ℕ) (labels : List (List ℕ)) → AreLabelsFrom tokens base labels
-    → BreaksWhole rule (take index st) tokens → (rule ≡ P2) ⊎ (rule ≡ P3)
-    → ((label : List ℕ) → Contains labels label → ¬ (IsBlamed rule st index label)) → ⊥
-some_blamed st index tokens P2 base labels from (others, are, label, has, unknown) is none =
+    → HasBlamed why st index tokens
+    → ((label : List ℕ) → Contains labels label → ¬ (IsBlamed why st index label)) → ⊥
+some_blamed why st index tokens base labels from (others, are, label, has, blamed) none =
     none label
     (subst (λ (l : List (List ℕ)). Contains l label)
-    (sym (same_labels tokens base labels others from are)) has) unknown
-some_blamed st index tokens P3 base labels from
-    (others, are, label, has, at, h, there, named, kind, idle) is none =
-    none label
-    (subst (λ (l : List (List ℕ)). Contains l label)
-    (sym (same_labels tokens base labels others from are)) has)
-    (at, h, there, named, kind, idle)
-some_blamed st index tokens rule base labels from broken is none = absurd (neither is)
-  where
-    neither : (rule ≡ P2) ⊎ (rule ≡ P3) → ⊥
-    neither (inl e) = cc
-    neither (inr e) = cc
-
--- the first of them stands at its token
-pub place_of_label : (st : List Sentence) (at : ℕ) (s : Sentence) (tokens : List (List ℕ))
-    (rule : ProofRule) (base : ℕ) (labels : List (List ℕ)) → AreLabelsFrom tokens base labels
-    → (index : ℕ) (label : List ℕ) → slice_get labels index ≡ Some label
-    → IsBlamed rule st at label
-    → ((other : List ℕ) → Contains (take index labels) other → ¬ (IsBlamed rule st at other))
-    → IsWholePlace (take at st) s tokens rule (base + index) 0
-place_of_label st at s tokens P2 base labels from index label there so none = (
-  first_label (IsUnknownLabel (take at st)) tokens base labels from index label there so none,
-  refl,
-)
-place_of_label st at s tokens P3 base labels from index label there so none = (
-  first_label (IsIdleLabel (take at st)) tokens base labels from index label there so none,
-  refl,
-)
-place_of_label st at s tokens rule base labels from index label there so none = absurd so
+    (sym (same_labels tokens base labels others from are)) has) blamed
 
 -- ==== the tokens
 
@@ -454,6 +371,15 @@ pub broken_first : (before : List Sentence) (s : Sentence) (tokens : List (List 
     → ¬ (rule ≡ P15) → BreaksWhole rule before tokens
 broken_first before s tokens rule (profile, inl fault) other = fault.broken
 broken_first before s tokens rule (profile, inr (whole, is, not)) other = absurd (other is)
+
+-- so it is broken where it is known to be another one
+pub breaks_as : (before : List Sentence) (s : Sentence) (tokens : List (List ℕ))
+    (rule known : ProofRule) → rule ≡ known → ¬ (known ≡ P15)
+    → (profile : Profile) × IsTextFault profile before s tokens rule
+    → BreaksWhole known before tokens
+breaks_as before s tokens rule known is other fault =
+    subst (λ (r : ProofRule). BreaksWhole r before tokens) is
+    (broken_first before s tokens rule fault (λ e. other (sym is ∙ e)))
 
 -- it is no other
 pub only_whole : (before : List Sentence) (s : Sentence) (tokens : List (List ℕ))
@@ -471,16 +397,30 @@ only_whole before s tokens rule fault a b c d e f =
     go P5 a b c d e broken = e refl
     go r a b c d e broken = broken
 
-label_within : (tokens : List (List ℕ)) (token : ℕ) (label : List ℕ)
-    → IsLabelAt tokens token label → slice_get tokens token ≡ Some label
-label_within tokens token label (inl (normal, there)) = there
-label_within tokens token label (inr (labels, letters, parts, index, is, there)) =
+label_within : (tokens : List (List ℕ)) (from : ℕ) (labels : List (List ℕ)) (index token : ℕ)
+    (label : List ℕ) → AreLabelsFrom tokens from labels → token ≡ from + index
+    → slice_get labels index ≡ Some label → slice_get tokens token ≡ Some label
+label_within tokens from labels index token label (inl (normal, none, same)) is there =
+    let at : token ≡ index = omega (arith, is, none) in
+    ap (slice_get tokens) at ∙ ap (λ (ts : List (List ℕ)). slice_get ts index) (sym same) ∙ there
+label_within tokens from labels index token label (inr (letters, parts, one)) is there =
     let behind : slice_get (opening_token ∷ (labels ++ closing_token ∷ letters)) (suc index)
     ≡ Some label =
     get_kept labels (closing_token ∷ letters) index label there in
-    let next : token ≡ suc index = omega arith in
+    let next : token ≡ suc index = omega (arith, is, one) in
     ap (λ (ts : List (List ℕ)). slice_get ts token) parts.whole
     ∙ ap (slice_get (opening_token ∷ (labels ++ closing_token ∷ letters))) next ∙ behind
+
+-- the first label that is so is one of the tokens
+first_within : (Is : List ℕ → Type 0) (tokens : List (List ℕ)) (token byte : ℕ)
+    → IsFirstLabel Is tokens token → byte ≡ 0
+    → (text : List ℕ) × (slice_get tokens token ≡ Some text) × (byte ≤ length text)
+first_within Is tokens token byte first start = (
+  first.label,
+  label_within tokens first.from first.labels first.index token first.label first.are first.stands
+      first.there,
+  omega (arith, start),
+)
 
 piece_within : (tokens labels letters : List (List ℕ)) (token byte piece : ℕ) (text : List ℕ)
     → IsCompressed tokens labels letters → token ≡ length labels + 2 + piece
@@ -525,9 +465,9 @@ in_tokens profile before s tokens P1 token byte (inl fault) (first, start) = (
 )
 in_tokens profile before s tokens P1 token byte (inr (whole, is, not)) place = absurd cc
 in_tokens profile before s tokens P2 token byte fault (first, start) =
-    (first.label, label_within tokens token first.label first.there, omega arith)
+    first_within (IsUnknownLabel before) tokens token byte first start
 in_tokens profile before s tokens P3 token byte fault (first, start) =
-    (first.label, label_within tokens token first.label first.there, omega arith)
+    first_within (IsIdleLabel before) tokens token byte first start
 in_tokens profile before s tokens P4 token byte fault
     (earlier, letter, later, at, all, not) =
     letter_within tokens token byte earlier letter later at
@@ -537,7 +477,8 @@ in_tokens profile before s tokens P5 token byte fault
 in_tokens profile before s tokens P15 token byte fault
     (inl ((labels, letters, c, index, is, (label, there, spare)), start, first)) = (
       label,
-      label_within tokens token label (inr (labels, letters, c, index, is, there)),
+      label_within tokens 1 labels index token label (inr (letters, c, refl))
+          (omega (arith, is)) there,
       omega arith,
     )
 in_tokens profile before s tokens P15 token byte fault
@@ -606,13 +547,6 @@ prefix_in_tokens tokens index text = by (begins_list tokens) (ends_list (known_t
     by false ended there = front there
     by true false there = absurd (none-some text there)
     by true true there = all there
-
--- no rule but P2 and P3 blames a label
-pub none_blamed : (st : List Sentence) (index : ℕ) (label : List ℕ) (rule : ProofRule)
-    → rule ≢ P2 → rule ≢ P3 → IsBlamed rule st index label → ⊥
-none_blamed st index label P2 a b blamed = a refl
-none_blamed st index label P3 a b blamed = b refl
-none_blamed st index label rule a b blamed = blamed
 
 -- tokens with labels, or with letters, have a list that is closed
 pub never_endless : (tokens rest labels : List (List ℕ)) → tokens ≡ opening_token ∷ rest

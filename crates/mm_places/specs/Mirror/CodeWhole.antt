@@ -1,31 +1,32 @@
 -- What the code that seeks the place of a fault of a whole proof knows on its way: it mirrors the
 -- code.
 use Rattle.std.specs.Prelude.{◌≡◌, ℕ, ◌+◌, ◌<◌, List, [], ◌∷◌, ◌++◌, length, take, slice_get, Some}
-use Rattle.std.specs.Prelude.{Option, None, ◌⊎◌, All}
+use Rattle.std.specs.Prelude.{Option, None, All, Contains}
 use Rattle.std.specs.List.{flat_map, AllByRecursion}
 use Rattle.mm_code.specs.declared.code.Code.{Code}
+use Rattle.mm_code.specs.declared.code.CodeRule.{CodeRule}
 use Rattle.mm_code.specs.declared.code.CodeRule.TheVariants as code
-use Rattle.mm_code.specs.Letters.{Letters, LettersBreak, IsLetter, IsLeadingLetter, IsEndOrTag}
+use Rattle.mm_code.specs.Letters.{Letters, IsLetter, IsLeadingLetter, IsEndOrTag}
 use Rattle.mm_frame.specs.Sentence.{Sentence}
 use Rattle.mm_step.specs.declared.fault.ProofRule.{ProofRule}
-use Rattle.mm_step.specs.declared.fault.ProofRule.TheVariants.{P2, P3, P4, P5}
+use Rattle.mm_step.specs.declared.fault.ProofRule.TheVariants.{P4, P5}
+use Rattle.mm_places.specs.declared.whole_places.Blame.{Blame}
+use Rattle.mm_places.specs.declared.whole_places.Blame.TheVariants as blame
 use Rattle.mm_places.specs.declared.whole_places.Behind.{Behind}
 use Rattle.mm_places.specs.declared.whole_places.Behind.TheVariants as behind
-use Rattle.mm_proof.specs.Tokens.{IsNormal, IsCompressed}
+use Rattle.mm_proof.specs.Tokens.{AreLabels}
 use Rattle.mm_places.specs.WholePlaces.{IsUnknownLabel, IsIdleLabel}
 
--- these are the labels of the tokens, the first of which stands at an index
-abbrev pub AreLabelsFrom : (tokens : List (List ℕ)) → (base : ℕ) → (labels : List (List ℕ))
-    → Type 0
-AreLabelsFrom tokens base labels =
-    (IsNormal tokens × (base ≡ 0) × (labels ≡ tokens))
-    ⊎ ((letters : List (List ℕ)) × IsCompressed tokens labels letters × (base ≡ 1))
+-- the label is to blame for that, in the proof of the statement at an index
+abbrev pub IsBlamed : Blame → List Sentence → (index : ℕ) → (label : List ℕ) → Type 0
+IsBlamed blame.Unknown statements index label = IsUnknownLabel (take index statements) label
+IsBlamed blame.Idle statements index label = IsIdleLabel (take index statements) label
 
--- the rule blames the label, in the proof of the statement at an index
-abbrev pub IsBlamed : ProofRule → List Sentence → (index : ℕ) → (label : List ℕ) → Type 0
-IsBlamed P2 statements index label = IsUnknownLabel (take index statements) label
-IsBlamed P3 statements index label = IsIdleLabel (take index statements) label
-IsBlamed rule statements index label = ⊥
+-- one of the labels of the tokens is
+abbrev pub HasBlamed : Blame → List Sentence → (index : ℕ) → (tokens : List (List ℕ)) → Type 0
+HasBlamed why statements index tokens =
+    (labels : List (List ℕ)) × AreLabels tokens labels
+    × (label : List ℕ) × Contains labels label × IsBlamed why statements index label
 
 -- The letters say codes; or they do up to an index, from which on they are leading digits.
 abbrev pub IsBegun : (letters : List ℕ) → Option ℕ → Type 0
@@ -54,16 +55,14 @@ IsCutAt letters index =
     × (codes : List Code) × Letters earlier codes
     × AllByRecursion IsLeadingLetter (digit ∷ digits) × IsEndOrTag later
 
--- the letters break the rule
-abbrev pub BreakLetters : ProofRule → List ℕ → Type 0
-BreakLetters P4 letters = LettersBreak code.P4 letters
-BreakLetters P5 letters = LettersBreak code.P5 letters
-BreakLetters rule letters = ⊥
+-- the rule of letters as one of proofs
+abbrev pub rule_of : CodeRule → ProofRule
+rule_of code.P4 = P4
+rule_of code.P5 = P5
 
--- they do at the letter with an index
-abbrev pub IsFaultIndex : ProofRule → List ℕ → (index : ℕ) → Type 0
-IsFaultIndex P4 letters index =
+-- the letters break the rule at the one with an index
+abbrev pub IsFaultIndex : CodeRule → List ℕ → (index : ℕ) → Type 0
+IsFaultIndex code.P4 letters index =
     (letter : ℕ) × (slice_get letters index ≡ Some letter)
     × All IsLetter (take index letters) × ¬ (IsLetter letter)
-IsFaultIndex P5 letters index = IsCutAt letters index
-IsFaultIndex rule letters index = ⊥
+IsFaultIndex code.P5 letters index = IsCutAt letters index

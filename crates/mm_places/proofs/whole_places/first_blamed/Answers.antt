@@ -1,4 +1,4 @@
--- The label that is found is the first that the rule blames.
+-- The label that is found is the first that is to blame.
 use Rattle.std.proofs.Common.{ℕ, List, subst, Contains, sym, ◌∙◌}
 use Rattle.std.proofs.lemmas.Bool.{false≢true}
 use Rattle.mm_places.specs.Mirror.CodeWhole.{IsBlamed}
@@ -16,7 +16,7 @@ returns-then-is_blamed c = (
 pub loop-index-preserved : goal.loop-index-preserved
 loop-index-preserved c =
     none_more (λ t. t.text.now)
-    (IsBlamed c.args.rule c.args.book.now.statements c.args.own.now.index)
+    (IsBlamed c.args.blame c.args.book.now.statements c.args.own.now.index)
     c.args.labels.now c.loop-index.index _ c.loop-index-test.true c.loop-index.invariant
     (λ is. false≢true (sym c.if-is_blamed.false ∙ c.is_blamed.ensures.1 is))
 

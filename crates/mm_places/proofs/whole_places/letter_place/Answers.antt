@@ -1,7 +1,8 @@
 -- The letter at which the letters break the rule stands at its token.
 use Rattle.std.proofs.Common.{ℕ, List, ◌<◌, length, subst, sym, ◌∙◌, arith, refl}
 use Rattle.mm_step.specs.Plain.{token_texts}
-use Rattle.mm_places.specs.Mirror.CodeWhole.{BreakLetters, IsFaultIndex}
+use Rattle.mm_code.specs.Letters.{LettersBreak}
+use Rattle.mm_places.specs.Mirror.CodeWhole.{IsFaultIndex}
 use Rattle.mm_proof.proofs.ProofTokens.SaidMoves.{letters_once}
 use Rattle.mm_places.proofs.ProofPlaces.WholePlaces.{joined, index_within, few_letters}
 use Rattle.mm_places.proofs.ProofPlaces.WholePlaces.{place_of_letter}
@@ -11,7 +12,7 @@ pub fault_index-requires : goal.fault_index-requires
 fault_index-requires c =
     let parts = c.letters_of-base.ensures in
     let letters = token_texts c.letters_of-base.result.1.now in
-    subst (BreakLetters c.args.rule)
+    subst (LettersBreak c.args.rule)
     (letters_once (token_texts c.args.tokens.now) c.requires.0 (joined letters) c.requires.1
     (parts.0, letters, parts.1, refl)
     ∙ sym (c.deref.ensures.value ∙ c.in_ok-text.ensures))
