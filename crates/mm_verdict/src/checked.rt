@@ -5,10 +5,11 @@ ghost use Rattle.std.specs.Prelude.{true, false, Some, None, IsTrue, IfOk, IfErr
 ghost use Rattle.mm_rules.specs.declared.ask.AskFault.TheVariants.{Memory};
 ghost use Rattle.std.specs.List.{AllByRecursion};
 
-use crate::reread::{proof_of, reader, reread};
-use crate::theorem::{Theorem, theorem_of};
+use crate::reread::{reader, reread};
+use crate::theorem::{Theorem, read_theorem};
 use mm_base::{File, Statement};
 use mm_frame::{Book, Found, LabelId, LabelKind};
+use mm_proof::StepsReader;
 use mm_rules::{AskFault, AskRule, Kept, Progress, is_among};
 use mm_step::Profile;
 use mm_text::Statements;
@@ -198,8 +199,8 @@ impl<'a> Checked<'a> {
         let files = self.files;
         let id = self.theorem(label)?;
         let statement = reread(alloc, self.book.seed(), files, label)?;
-        let tokens = proof_of(alloc, &statement)?;
-        theorem_of(alloc, self.profile, &self.book, id, &statement, &tokens)
+        let mut steps = StepsReader::new(alloc);
+        read_theorem(&mut steps, alloc, self.profile, &self.book, id, &statement)
     }
 
     /// A reader of its files.
@@ -245,7 +246,7 @@ impl<'a> Checked<'a> {
             theorem.span ≡ (plain_statement statement.now).span) }
         ensures memory { IfErr result (λ fault. fault ≡ Memory) }
     {
-        let tokens = proof_of(alloc, statement)?;
-        theorem_of(alloc, self.profile, &self.book, id, statement, &tokens)
+        let mut steps = StepsReader::new(alloc);
+        read_theorem(&mut steps, alloc, self.profile, &self.book, id, statement)
     }
 }

@@ -1,6 +1,6 @@
 //! A theorem and the steps of its proof.
 
-ghost use Rattle.std.specs.Prelude.{◌≡◌, ◌≤◌, map, length, sum_by, false, IfOk, IfErr};
+ghost use Rattle.std.specs.Prelude.{◌≡◌, ◌≤◌, length, sum_by, false, IfOk, IfErr};
 ghost use Rattle.mm_base.specs.Statement.{plain_statement};
 ghost use Rattle.mm_base.specs.MostBytes.{most_bytes};
 ghost use Rattle.mm_proof.specs.Parsed.{OfProof, SaySteps};
@@ -11,7 +11,7 @@ ghost use Rattle.mm_verdict.specs.Mirror.Theorems.{IsProofOf, AreProvedSteps, Sa
 
 use mm_base::Statement;
 use mm_frame::{Book, LabelId};
-use mm_proof::{Parsed, Steps, StepsReader};
+use mm_proof::{Steps, StepsReader};
 use mm_rules::AskFault;
 use mm_step::{Profile, ProofFault};
 use std::alloc::Global;
@@ -24,65 +24,6 @@ pub struct Theorem {
     pub steps: Steps,
     pub file: usize,
     pub span: (u32, u32),
-}
-
-/// The steps of a `$p`, whose complete proof has no fault in the profile.
-fn steps_of(
-    alloc: Global,
-    profile: Profile,
-    book: &Book,
-    id: LabelId,
-    tokens: &[&[u8]],
-) -> Result<Steps, AskFault>
-    requires proof { IsProofOf profile book.now.statements id.0 (map (λ t. t.now) tokens.now) }
-    requires room { sum_by length (map (λ t. t.now) tokens.now) ≤ most_bytes }
-    ensures said { IfOk result (λ steps. OfProof book.now.statements id.0 (λ index s.
-        SaySteps book.now.statements index s (map (λ t. t.now) tokens.now) steps.moves)) }
-    ensures usable { IfOk result (λ steps. AreSteps book.now.statements id.0 steps.moves) }
-    ensures profile { IfOk result (λ steps. steps.profile ≡ profile) }
-    ensures whole { IfOk result (λ steps. steps.prefix ≡ false) }
-    ensures memory { IfErr result (λ fault. fault ≡ Memory) }
-{
-    match Steps::parse(alloc, profile, book, id, tokens) {
-        Ok(Parsed::Steps(steps)) => Ok(steps),
-        Err(ProofFault::Memory) => Err(AskFault::Memory),
-        // The proof is complete, and `check` accepted it under this profile.
-        Ok(Parsed::Incomplete(_)) => unreachable!(),
-        Err(ProofFault::Rule { .. }) => unreachable!(),
-    }
-}
-
-/// A `$p` with the steps of its complete proof, which has no fault in the profile.
-pub(crate) fn theorem_of(
-    alloc: Global,
-    profile: Profile,
-    book: &Book,
-    id: LabelId,
-    statement: &Statement,
-    tokens: &[&[u8]],
-) -> Result<Theorem, AskFault>
-    requires proof { IsProofOf profile book.now.statements id.0 (map (λ t. t.now) tokens.now) }
-    requires room { sum_by length (map (λ t. t.now) tokens.now) ≤ most_bytes }
-    ensures id { IfOk result (λ theorem. theorem.id.0 ≡ id.0) }
-    ensures home { IfOk result (λ theorem.
-        (theorem.file ≡ (plain_statement statement.now).first.file)
-        × (theorem.span ≡ (plain_statement statement.now).span)) }
-    ensures said { IfOk result (λ theorem. SayStepsOf book.now.statements theorem.id.0
-        (map (λ t. t.now) tokens.now) theorem.steps.moves) }
-    ensures usable { IfOk result (λ theorem.
-        AreSteps book.now.statements theorem.id.0 theorem.steps.moves) }
-    ensures proved { IfOk result (λ theorem.
-        AreProvedSteps book.now.statements theorem.id.0 theorem.steps) }
-    ensures whole { IfOk result (λ theorem. theorem.steps.prefix ≡ false) }
-    ensures memory { IfErr result (λ fault. fault ≡ Memory) }
-{
-    let steps = steps_of(alloc, profile, book, id, tokens)?;
-    Ok(Theorem {
-        id,
-        steps,
-        file: statement.first.file,
-        span: statement.span,
-    })
 }
 
 /// The steps of a `$p`, whose complete proof has no fault in the profile, by a reader of one proof
@@ -114,7 +55,8 @@ fn read_steps<'a>(
     }
 }
 
-/// The same as `theorem_of` answers, by a reader of one proof after the other.
+/// A `$p` with the steps of its complete proof, which has no fault in the profile, by a reader of
+/// one proof after the other.
 pub fn read_theorem<'a>(
     reader: &mut StepsReader<'a>,
     alloc: Global,
@@ -127,6 +69,9 @@ pub fn read_theorem<'a>(
         (proof_of (plain_statement statement.now)) }
     requires room { sum_by length (proof_of (plain_statement statement.now)) ≤ most_bytes }
     ensures id { IfOk result (λ theorem. theorem.id.0 ≡ id.0) }
+    ensures home { IfOk result (λ theorem.
+        (theorem.file ≡ (plain_statement statement.now).first.file)
+        × (theorem.span ≡ (plain_statement statement.now).span)) }
     ensures said { IfOk result (λ theorem. SayStepsOf book.now.statements theorem.id.0
         (proof_of (plain_statement statement.now)) theorem.steps.moves) }
     ensures usable { IfOk result (λ theorem.

@@ -1,13 +1,12 @@
 -- What is read again under the label is the theorem.
 use Rattle.std.proofs.Common.{◌≡◌, ℕ, List, map, true, None, sym, ap, subst}
 use Rattle.std.proofs.lemmas.Result.{IfOk-weaker}
-use Rattle.std.specs.Borrow.{Bor}
 use Rattle.mm_base.specs.Statement.{PlainStatement, plain_statement}
 use Rattle.mm_text.specs.Files.{plain_file}
 use Rattle.mm_text.specs.Reading.{Reads}
 use Rattle.mm_rules.specs.Conclusion.{Conclusion}
 use Rattle.mm_verdict.specs.declared.theorem.Theorem.{Theorem}
-use Rattle.mm_rules.specs.Verdict.{CanBeRead, is_proof, sentences}
+use Rattle.mm_rules.specs.Verdict.{CanBeRead, is_proof, proof_of, sentences}
 use Rattle.mm_rules.specs.Rests.{IsNamed}
 use Rattle.mm_verdict.specs.Mirror.Theorems.{SayStepsOf, AreStepsOf}
 use Rattle.mm_base.proofs.Lists.{error_keeps}
@@ -42,8 +41,8 @@ reread-requires-clause-stands c =
     let (index, s, at, both) = c.in_ok-id.ensures.found well.origin.statements own.kept in
     (well.origin.statements, s, rw files own.accepted.reads, (index, at.there, both.0))
 
-pub theorem_of-requires-clause-proof : goal.theorem_of-requires-clause-proof
-theorem_of-requires-clause-proof c =
+pub read_theorem-requires-clause-proof : goal.read_theorem-requires-clause-proof
+read_theorem-requires-clause-proof c =
     let now : Conclusion = c.args.self.now in
     let well = subst KeptWell c.self.view_is c.self.invariant in
     let files : map plain_file c.self.inside.files.now ≡ now.files = ap (λ (v : Conclusion). v.files) c.self.view_is in
@@ -54,20 +53,19 @@ theorem_of-requires-clause-proof c =
     let sentences : c.self.inside.book.statements ≡ now.sentences = ap (λ (v : Conclusion). v.sentences) c.self.view_is in
     let id : ℕ = c.in_ok-id.id.0 in
     let under : c.self.inside.profile ≡ now.profile = ap (λ (v : Conclusion). v.profile) c.self.view_is in
-    rw (under, sentences, c.deref.ensures.value, c.in_ok-tokens.ensures)
+    rw (under, sentences)
     (shown_proof now well.origin.statements c.args.label.now id t own c.theorem.ensures.sound.0 named stands)
 
-pub theorem_of-requires-clause-room : goal.theorem_of-requires-clause-room
-theorem_of-requires-clause-room c =
+pub read_theorem-requires-clause-room : goal.read_theorem-requires-clause-room
+read_theorem-requires-clause-room c =
     let now : Conclusion = c.args.self.now in
     let well = subst KeptWell c.self.view_is c.self.invariant in
     let files : map plain_file c.self.inside.files.now ≡ now.files = ap (λ (v : Conclusion). v.files) c.self.view_is in
     let own : AreOf now well.origin.statements = own_statements now well.origin in
     let t : PlainStatement = plain_statement c.in_ok-statement.statement in
     let stands = c.in_ok-statement.ensures.found well.origin.statements (rw files own.accepted.reads) in
-    rw (c.deref.ensures.value, c.in_ok-tokens.ensures)
-    (proof_fits now.files well.origin.statements None stands.0 t own.accepted.readable
-    own.accepted.reads stands.1)
+    proof_fits now.files well.origin.statements None stands.0 t own.accepted.readable
+    own.accepted.reads stands.1
 
 pub returns-clause-read : goal.returns-clause-read
 returns-clause-read c =
@@ -77,9 +75,9 @@ returns-clause-read c =
     let told : c.self.inside.book.statements ≡ now.sentences = ap (λ (v : Conclusion). v.sentences) c.self.view_is in
     let id : ℕ = c.in_ok-id.id.0 in
     let t : PlainStatement = plain_statement c.in_ok-statement.statement in
-    made_both c.theorem_of.result
+    made_both c.read_theorem.result
     (λ (theorem : Theorem). theorem.id.0 ≡ id)
-    (λ (theorem : Theorem). SayStepsOf c.self.inside.book.statements theorem.id.0 (map (λ (b : Bor (List ℕ)). b.now) c.deref.result.now) theorem.steps.moves)
+    (λ (theorem : Theorem). SayStepsOf c.self.inside.book.statements theorem.id.0 (proof_of t) theorem.steps.moves)
     (λ (theorem : Theorem). (statements : List PlainStatement) → Reads now.files statements None
     → (now.sentences ≡ sentences statements) × AreStepsOf statements c.args.label.now theorem.id.0 theorem.steps.moves)
     (λ theorem same said statements reads.
@@ -89,17 +87,17 @@ returns-clause-read c =
     subst (λ (n : ℕ). IsNamed statements c.args.label.now (λ s. is_proof s ≡ true) n) (sym same) (c.in_ok-id.ensures.found statements of.kept) in (
       of.kept.sentences,
       theorem_steps now statements c.args.label.now theorem.id.0 t theorem.steps.moves of c.theorem.ensures.sound.0 named stands
-          (rw (told, c.deref.ensures.value, c.in_ok-tokens.ensures) at said),
+          (rw told at said),
     ))
-    c.theorem_of.ensures.id c.theorem_of.ensures.said
+    c.read_theorem.ensures.id c.read_theorem.ensures.said
 
 pub returns-clause-proved : goal.returns-clause-proved
 returns-clause-proved c =
-    rw (ap (λ (v : Conclusion). v.sentences) c.self.view_is) at c.theorem_of.ensures.proved
+    rw (ap (λ (v : Conclusion). v.sentences) c.self.view_is) at c.read_theorem.ensures.proved
 
 pub returns-clause-usable : goal.returns-clause-usable
 returns-clause-usable c =
-    rw (ap (λ (v : Conclusion). v.sentences) c.self.view_is) at c.theorem_of.ensures.usable
+    rw (ap (λ (v : Conclusion). v.sentences) c.self.view_is) at c.read_theorem.ensures.usable
 
 pub returns-clause-home : goal.returns-clause-home
 returns-clause-home c =
@@ -107,7 +105,7 @@ returns-clause-home c =
     let well = subst KeptWell c.self.view_is c.self.invariant in
     let files : map plain_file c.self.inside.files.now ≡ now.files = ap (λ (v : Conclusion). v.files) c.self.view_is in
     let t : PlainStatement = plain_statement c.in_ok-statement.statement in
-    IfOk-weaker c.theorem_of.result
+    IfOk-weaker c.read_theorem.result
     (λ (theorem : Theorem). (theorem.file ≡ t.first.file) × (theorem.span ≡ t.span))
     (λ (theorem : Theorem). (statements : List PlainStatement) → Reads now.files statements None → IsHomeOf statements c.args.label.now theorem.file theorem.span)
     (λ theorem both statements reads.
@@ -115,4 +113,4 @@ returns-clause-home c =
     let meant : AllMeant (sentences statements) = subst AllMeant of.kept.sentences c.theorem.ensures.sound.0 in
     let stands = c.in_ok-statement.ensures.found statements (rw files reads) in
     home_of statements c.args.label.now t theorem.file theorem.span meant stands both.0 both.1)
-    c.theorem_of.ensures.home
+    c.read_theorem.ensures.home

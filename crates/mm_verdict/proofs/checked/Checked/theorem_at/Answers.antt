@@ -1,38 +1,36 @@
 -- What is read again is the theorem, which was judged.
 use Rattle.std.proofs.Common.{◌≡◌, ℕ, List, map, None, ap, subst}
-use Rattle.std.specs.Borrow.{Bor}
 use Rattle.std.proofs.lemmas.Result.{IfOk-weaker}
 use Rattle.mm_base.specs.Statement.{PlainStatement, plain_statement}
 use Rattle.mm_text.specs.Reading.{Reads}
 use Rattle.mm_frame.specs.Sentence.{sentence_of, IsLabelled}
 use Rattle.mm_rules.specs.Conclusion.{Conclusion}
 use Rattle.mm_verdict.specs.declared.theorem.Theorem.{Theorem}
-use Rattle.mm_rules.specs.Verdict.{sentences}
+use Rattle.mm_rules.specs.Verdict.{proof_of, sentences}
 use Rattle.mm_verdict.specs.Mirror.Theorems.{SayStepsOf, AreStepsOf}
 use Rattle.mm_verdict.proofs.Questions.TheoremsAgain.{proof_again, room_again, steps_again}
 use Rattle.mm_verdict.proofs.ReplyTexts.{made_both}
 use Rattle.mm_verdict.proofs.Verdicts.AcceptedStatements.{KeptWell, read_statements}
 use Rattle.mm_verdict.proofs.checked.Checked.theorem_at.Goals as goal
 
-pub theorem_of-requires-clause-proof : goal.theorem_of-requires-clause-proof
-theorem_of-requires-clause-proof c =
+pub read_theorem-requires-clause-proof : goal.read_theorem-requires-clause-proof
+read_theorem-requires-clause-proof c =
     let now : Conclusion = c.args.self.now in
     let well = subst KeptWell c.self.view_is c.self.invariant in
     let told = ap (λ (v : Conclusion). v.sentences) c.self.view_is in
     let under = ap (λ (v : Conclusion). v.profile) c.self.view_is in
-    rw (under, told, c.deref.ensures.value, c.in_ok-tokens.ensures)
+    rw (under, told)
     (proof_again now c.args.id.0 (plain_statement c.args.statement.now) well c.requires)
 
-pub theorem_of-requires-clause-room : goal.theorem_of-requires-clause-room
-theorem_of-requires-clause-room c =
+pub read_theorem-requires-clause-room : goal.read_theorem-requires-clause-room
+read_theorem-requires-clause-room c =
     let now : Conclusion = c.args.self.now in
     let well = subst KeptWell c.self.view_is c.self.invariant in
-    rw (c.deref.ensures.value, c.in_ok-tokens.ensures)
-    (room_again now c.args.id.0 (plain_statement c.args.statement.now) well c.requires)
+    room_again now c.args.id.0 (plain_statement c.args.statement.now) well c.requires
 
 pub returns-clause-proved : goal.returns-clause-proved
 returns-clause-proved c =
-    rw (ap (λ (v : Conclusion). v.sentences) c.self.view_is) at c.theorem_of.ensures.proved
+    rw (ap (λ (v : Conclusion). v.sentences) c.self.view_is) at c.read_theorem.ensures.proved
 
 pub returns-clause-read : goal.returns-clause-read
 returns-clause-read c =
@@ -41,26 +39,26 @@ returns-clause-read c =
     let told = ap (λ (v : Conclusion). v.sentences) c.self.view_is in
     let id : ℕ = c.args.id.0 in
     let s : PlainStatement = plain_statement c.args.statement.now in
-    made_both c.theorem_of.result
+    made_both c.read_theorem.result
     (λ (theorem : Theorem). theorem.id.0 ≡ id)
     (λ (theorem : Theorem). SayStepsOf c.self.inside.book.statements theorem.id.0
-    (map (λ (b : Bor (List ℕ)). b.now) c.deref.result.now) theorem.steps.moves)
+    (proof_of s) theorem.steps.moves)
     (λ (theorem : Theorem). (label : List ℕ) → IsLabelled label (sentence_of s)
     → (statements : List PlainStatement) → Reads now.files statements None
     → AreStepsOf statements label theorem.id.0 theorem.steps.moves)
     (λ theorem same said label named statements reads.
     steps_again now theorem.id.0 s label theorem.steps.moves well
     (rw same c.requires) named
-    (rw (told, c.deref.ensures.value, c.in_ok-tokens.ensures) at said) statements reads)
-    c.theorem_of.ensures.id c.theorem_of.ensures.said
+    (rw told at said) statements reads)
+    c.read_theorem.ensures.id c.read_theorem.ensures.said
 
 pub returns-clause-told : goal.returns-clause-told
 returns-clause-told c =
     let now : Conclusion = c.args.self.now in
     let well = subst KeptWell c.self.view_is c.self.invariant in
-    IfOk-weaker c.theorem_of.result (λ (theorem : Theorem). theorem.id.0 ≡ c.args.id.0)
+    IfOk-weaker c.read_theorem.result (λ (theorem : Theorem). theorem.id.0 ≡ c.args.id.0)
     (λ (theorem : Theorem). (statements : List PlainStatement) → Reads now.files statements None
     → now.sentences ≡ sentences statements)
     (λ theorem same statements reads.
     (read_statements now statements well.origin reads).kept.sentences)
-    c.theorem_of.ensures.id
+    c.read_theorem.ensures.id
