@@ -3,3 +3,4 @@ pub mod WordSets
 pub mod ScratchWords
 pub mod RowBounds
 pub mod Resting
+pub mod ShortestChains

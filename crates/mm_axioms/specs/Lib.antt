@@ -1,4 +1,5 @@
 pub mod Reply
 pub mod Users
+pub mod Chains
 pub mod AllAxioms
 pub mod Mirror

@@ -6,3 +6,4 @@ pub mod Scratch
 pub mod Rows
 pub mod Tables
 pub mod Shortening
+pub mod Chains

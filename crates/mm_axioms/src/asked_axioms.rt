@@ -5,6 +5,8 @@ ghost use Rattle.mm_axioms.specs.Mirror.Tables.{AreTables, IsOfKind, IsReportAt}
 ghost use Rattle.mm_rules.specs.Rests.{AreInOrder, IsNumberWhere};
 ghost use Rattle.mm_rules.specs.Rests.{IsNamed, IsAskFault, IsReport};
 ghost use Rattle.mm_axioms.specs.Users.{IsAssertionFault, AreUsers};
+ghost use Rattle.mm_axioms.specs.Chains.{AreEnds, IsChain, IsChainFault};
+ghost use Rattle.mm_frame.specs.Numbers.{labelled_sentences};
 ghost use Rattle.mm_rules.specs.declared.ask.AskFault.TheVariants.{Memory};
 ghost use Rattle.mm_frame.specs.Form.{IsSound};
 ghost use Rattle.mm_frame.specs.Sentence.{IsAssertion};
@@ -17,6 +19,7 @@ ghost use Rattle.std.specs.Prelude.{true, false, Some, None, IfOk, IfErr, IfSome
 ghost use Rattle.std.specs.Prelude.{◌≡◌, ◌<◌, List, map, length, slice_get};
 
 use crate::bits::index_of;
+use crate::chains::{ChainFault, chain_between};
 use crate::report::{
     Report, Tables, axioms_among, marked_among, reach, report_in, tables_of, theorems_of,
 };
@@ -118,6 +121,66 @@ pub fn all_users(alloc: Global, checked: &Checked, label: &[u8]) -> Result<Vec<L
     let kept = &checked.kept;
     let assertion = assertion(checked, label)?;
     Ok(all_users_among(alloc, kept, assertion)?)
+}
+
+/// The numbers between which a chain is asked for.
+#[derive(Clone, Copy)]
+struct Ends {
+    theorem: LabelId,
+    assertion: LabelId,
+}
+
+/// The `$p` with one label, and the assertion with the other.
+fn ends_of(checked: &Checked, label: &[u8], other: &[u8]) -> Result<Ends, ChainFault>
+    ensures within { IfOk result (λ ends.
+        ends.theorem.0 < length (labelled_sentences checked.now.sentences)) }
+    ensures ends { IfOk result (λ ends. (statements : List PlainStatement)
+        → IsKeptOf statements checked.now
+        → AreEnds statements label.now other.now ends.theorem.0 ends.assertion.0) }
+    ensures fault { IfErr result (λ fault. (statements : List PlainStatement)
+        → IsKeptOf statements checked.now → IsChainFault statements label.now other.now fault) }
+    ensures sound { IfOk result (λ ends. IsSound checked.now.sentences) }
+{
+    match checked.theorem(label) {
+        Ok(theorem) => match assertion(checked, other) {
+            Ok(assertion) => Ok(Ends { theorem, assertion }),
+            Err(fault) => Err(ChainFault::Assertion(fault)),
+        },
+        Err(fault) => Err(ChainFault::Theorem(fault)),
+    }
+}
+
+/// Why the `$p` with one label depends on the assertion with the other: a chain in which each uses
+/// the next, from the one to the other. No chain is shorter; of those as short it is the one whose
+/// assertions come first in the database, compared from the front. The chain from a `$p` to itself
+/// has it alone.
+///
+/// # Errors
+///
+/// `Theorem` and `Assertion` with what can't be asked of the label, as for `axioms` and
+/// `direct_users`; `Independent` where no chain leads there; `Memory` where a growth was refused.
+pub fn chain(
+    alloc: Global,
+    checked: &Checked,
+    label: &[u8],
+    other: &[u8],
+) -> Result<Vec<LabelId>, ChainFault>
+    ensures chain { IfOk result (λ chain. (statements : List PlainStatement)
+        → Reads checked.now.files statements None
+        → IsChain statements label.now other.now (map (λ id. id.0) chain.items)) }
+    ensures fault { IfErr result (λ fault. (statements : List PlainStatement)
+        → Reads checked.now.files statements None
+        → IsChainFault statements label.now other.now fault) }
+    // Each number is that of a label.
+    ensures in_range { IfOk result (λ chain.
+        AllByRecursion (λ n. n < length checked.now.labels) (map (λ id. id.0) chain.items)) }
+{
+    let kept = &checked.kept;
+    let ends = ends_of(checked, label, other)?;
+    match chain_between(alloc, kept, ends.theorem, ends.assertion)? {
+        Some(chain) => Ok(chain),
+        None => Err(ChainFault::Independent),
+    }
 }
 
 /// The tables of what all theorems rest on.

@@ -1,19 +1,21 @@
 //! What theorems rest on, and what rests on them.
-//! It answers `axioms` of one theorem and of all, `direct_users` and `all_users`, from the
+//! It answers `axioms` of one theorem and of all, `direct_users`, `all_users` and `chain`, from the
 //! assertions that each complete proof uses, as the verdict keeps them (`mm_step` finds them, in
 //! `used`). It stands on `mm_verdict` alone. Begin with `asked_axioms`, then `report` and `rows`,
-//! or `users`. What a theorem rests on is defined in `specs/Rests.antt` of `mm_rules`, who its
-//! users are in `specs/Users.antt`.
+//! `users` or `chains`. What a theorem rests on is defined in `specs/Rests.antt` of `mm_rules`, who
+//! its users are in `specs/Users.antt`, why it rests on it in `specs/Chains.antt`.
 #![tactic(auto)]
 
 mod all_axioms;
 mod asked_axioms;
 mod bits;
+mod chains;
 mod report;
 mod rows;
 mod scratch;
 mod users;
 
 pub use all_axioms::{all_axioms_text, push_marked};
-pub use asked_axioms::{all_users, axioms, direct_users, tables};
+pub use asked_axioms::{all_users, axioms, chain, direct_users, tables};
+pub use chains::ChainFault;
 pub use report::{Report, Tables, is_founded};

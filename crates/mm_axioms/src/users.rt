@@ -47,7 +47,7 @@ fn is_one_reached(marks: &[bool], assertion: LabelId, numbers: &[LabelId]) -> bo
 }
 
 /// One more than the number of the last proof; 0 where there is none.
-fn end_of(kept: &Kept) -> usize
+pub(crate) fn end_of(kept: &Kept) -> usize
     requires { AreRising (numbers_of kept.now) }
     ensures room { (u : ProofUses) → Contains kept.now u → u.number < result }
     ensures least { (result ≡ 0)
