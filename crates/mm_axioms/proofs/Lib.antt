@@ -4,3 +4,4 @@ pub mod ScratchWords
 pub mod RowBounds
 pub mod Resting
 pub mod ShortestChains
+pub mod TypeCodes

@@ -7,3 +7,4 @@ pub mod Rows
 pub mod Tables
 pub mod Shortening
 pub mod Chains
+pub mod Codes

@@ -6,6 +6,7 @@ ghost use Rattle.mm_rules.specs.Rests.{AreInOrder, IsNumberWhere};
 ghost use Rattle.mm_rules.specs.Rests.{IsNamed, IsAskFault, IsReport};
 ghost use Rattle.mm_axioms.specs.Users.{IsAssertionFault, AreUsers};
 ghost use Rattle.mm_axioms.specs.Chains.{AreEnds, IsChain, IsChainFault};
+ghost use Rattle.mm_axioms.specs.Essential.{IsEssentialReport};
 ghost use Rattle.mm_frame.specs.Numbers.{labelled_sentences};
 ghost use Rattle.mm_rules.specs.declared.ask.AskFault.TheVariants.{Memory};
 ghost use Rattle.mm_frame.specs.Form.{IsSound};
@@ -20,6 +21,7 @@ ghost use Rattle.std.specs.Prelude.{◌≡◌, ◌<◌, List, map, length, slice
 
 use crate::bits::index_of;
 use crate::chains::{ChainFault, chain_between};
+use crate::essential::essential_of;
 use crate::report::{
     Report, Tables, axioms_among, marked_among, reach, report_in, tables_of, theorems_of,
 };
@@ -58,6 +60,30 @@ pub fn axioms(alloc: Global, checked: &Checked, label: &[u8]) -> Result<Report, 
     let axioms = axioms_among(alloc, &checked.book, &marks, theorem)?;
     let unproved = marked_among(alloc, &checked.incomplete, &marks)?;
     Ok(Report { axioms, unproved })
+}
+
+/// What the `$p` with this label rests on, as `axioms` lists it, and of that what has the type code
+/// of the `$p`: the first symbol of its statement.
+///
+/// # Errors
+///
+/// As for `axioms`.
+pub fn essential_axioms(alloc: Global, checked: &Checked, label: &[u8]) -> Result<Report, AskFault>
+    ensures report { IfOk result (λ report. (statements : List PlainStatement)
+        → Reads checked.now.files statements None → IsEssentialReport statements label.now
+        (map (λ id. id.0) report.axioms.items) (map (λ id. id.0) report.unproved.items)) }
+    ensures fault { IfErr result (λ fault. (statements : List PlainStatement)
+        → Reads checked.now.files statements None → IsAskFault statements label.now fault) }
+    // Each number is that of a label.
+    ensures in_range { IfOk result (λ report.
+        AllByRecursion (λ n. n < length checked.now.labels) (map (λ id. id.0) report.axioms.items)
+        × AllByRecursion (λ n. n < length checked.now.labels)
+        (map (λ id. id.0) report.unproved.items)) }
+{
+    let book = &checked.book;
+    let theorem = checked.theorem(label)?;
+    let report = axioms(alloc, checked, label)?;
+    Ok(essential_of(alloc, book, theorem, &report)?)
 }
 
 /// The number of the `$a` or `$p` that has this label.

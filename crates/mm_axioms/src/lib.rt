@@ -10,12 +10,13 @@ mod all_axioms;
 mod asked_axioms;
 mod bits;
 mod chains;
+mod essential;
 mod report;
 mod rows;
 mod scratch;
 mod users;
 
 pub use all_axioms::{all_axioms_text, push_marked};
-pub use asked_axioms::{all_users, axioms, chain, direct_users, tables};
+pub use asked_axioms::{all_users, axioms, chain, direct_users, essential_axioms, tables};
 pub use chains::ChainFault;
 pub use report::{Report, Tables, is_founded};

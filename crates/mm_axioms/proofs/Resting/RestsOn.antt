@@ -280,7 +280,7 @@ in_order_once P xs ys one other =
 
 -- ---- the theorem is one
 
-named_once : (statements : List PlainStatement) (label : List ℕ) (a b : ℕ) → AllMeant (sentences statements)
+pub named_once : (statements : List PlainStatement) (label : List ℕ) (a b : ℕ) → AllMeant (sentences statements)
     → IsNamed statements label (λ s. is_proof s ≡ true) a → IsNamed statements label (λ s. is_proof s ≡ true) b → a ≡ b
 named_once statements label a b all (p, s, at, both) (q, t, other, two) =
     let same : p ≡ q =
