@@ -5,6 +5,7 @@ pub mod Reading
 pub mod Remarks
 pub mod RuleCodes
 pub mod Remaining
+pub mod Passing
 pub mod Laws
 pub mod LineNumbers
 pub mod Alike

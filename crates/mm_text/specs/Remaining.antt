@@ -71,3 +71,10 @@ Gives old (Err Memory) new into =
     × (new ≡ record old { statements = []; ending = None; refused = true; told = true })
     × IsEmpty into
 Gives old (Err (Load rule)) new into = ⊥
+
+-- What reading on gives: the next statement; or that none is left, at the end or at the fault. The
+-- ending can still be asked for.
+abbrev pub ReadsOn : Remaining → Bool → PlainStatement → Remaining → Type 0
+ReadsOn old true s new =
+    (old.statements ≡ s ∷ new.statements) × (new ≡ record old { statements = new.statements })
+ReadsOn old false s new = (old.statements ≡ []) × (new ≡ record old { told = true })

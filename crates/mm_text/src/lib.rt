@@ -1,6 +1,7 @@
 //! The reader: the files of a Metamath database, cut into tokens and statements.
 //! It answers `Statements::read`, one statement after the other, or the text's first fault, by rule
-//! and place; and what comments say of a statement, and the bytes of files without their comments.
+//! and place; `pass_all`, which hands all of them over; and what comments say of a statement, and
+//! the bytes of files without their comments.
 //! It stands on `mm_base` alone; of the crates of proofs none stands on it. Begin with
 //! `statements`, and with `specs/Reading.antt`, which says what is read.
 #![tactic(auto)]
@@ -19,6 +20,7 @@ mod names;
 mod nest;
 mod next;
 mod parts;
+mod passing;
 mod remarks;
 mod scan;
 mod scope;
@@ -35,5 +37,6 @@ pub use laws::{
     proofs_stand_in_spans, replaced_proofs_are_read,
 };
 pub use load::{HollowBytes, LoadFault, read_all, read_hollow};
+pub use passing::{Passing, pass_all, pass_first, pass_next};
 pub use remarks::{headings_between, mathbox_at, says_before};
 pub use statements::Statements;

@@ -1,10 +1,12 @@
 //! The statements of the handed files, one after the other.
 
-ghost use Rattle.std.specs.Prelude.{◌≡◌, true, map, Ok};
+ghost use Rattle.std.specs.Prelude.{◌≡◌, true, map, Ok, Err, IfOk, IfErr};
 ghost use Rattle.mm_base.specs.Statement.{plain_statement, HasForm};
-ghost use Rattle.mm_text.specs.Files.{plain_file};
+ghost use Rattle.mm_text.specs.Files.{plain_file, BreaksLoad};
 ghost use Rattle.mm_text.specs.Reading.{IsInPlace};
-ghost use Rattle.mm_text.specs.Remaining.{Begins, Gives};
+ghost use Rattle.mm_text.specs.Remaining.{Begins, Gives, IsUnread, ReadsOn};
+ghost use Rattle.mm_text.specs.declared.fault.LoadRule.{LoadRule};
+ghost use Rattle.mm_text.specs.declared.fault.TextFault.TheVariants.{Memory};
 ghost use Rattle.mm_text.specs.Mirror.Steps.{plain_scope};
 ghost use Rattle.mm_text.specs.Mirror.ReaderState.{AreFew, AnswersIn};
 
@@ -13,7 +15,7 @@ use crate::fault::TextFault;
 use crate::parts::statement;
 use crate::scope::Scope;
 use mm_base::{File, Seed, Statement};
-use std::alloc::Global;
+use std::alloc::{AllocError, Global};
 use std::marker::Model;
 
 /// What reading has come to.
@@ -89,6 +91,23 @@ impl<'a> Statements<'a> {
         })
     }
 
+    /// A reader of handed files that break no rule as a whole.
+    pub fn of_readable(
+        alloc: Global,
+        seed: Seed,
+        files: &'a [File<'a>],
+    ) -> Result<Statements<'a>, AllocError>
+        requires { (rule : LoadRule) → ¬ (BreaksLoad (map plain_file files.now) rule) }
+        ensures { IfOk result (IsUnread (map plain_file files.now)) }
+    {
+        match Statements::new(alloc, seed, files) {
+            Ok(statements) => Ok(statements),
+            Err(TextFault::Memory) => Err(AllocError),
+            // The files break no rule as a whole, and no token was read.
+            Err(TextFault::Load(_) | TextFault::Fault { .. }) => unreachable!(),
+        }
+    }
+
     /// Reads the next statement into `into`; `false` at the end. The lists of `into` keep their
     /// room, and are empty after `false` and after a fault.
     ///
@@ -109,5 +128,24 @@ impl<'a> Statements<'a> {
         }
         into.clear();
         answer
+    }
+
+    /// Reads the next statement into `into`, as `read` does; `false` where none is left, at the
+    /// end of the text or at its fault. Which of them it is, `read` still answers.
+    pub fn more(&mut self, into: &mut Statement<'a>) -> Result<bool, AllocError>
+        ensures on { IfOk result (λ more.
+            ReadsOn self.old more (plain_statement into.new) self.new) }
+        ensures formed { result ≡ Ok true → HasForm (plain_statement into.new) }
+        ensures in_place { result ≡ Ok true → IsInPlace self.old.files (plain_statement into.new) }
+        ensures memory { IfErr result (λ fault.
+            Gives self.old (Err Memory) self.new (plain_statement into.new)) }
+    {
+        match self.read(into) {
+            Ok(more) => Ok(more),
+            Err(TextFault::Fault { .. }) => Ok(false),
+            Err(TextFault::Memory) => Err(AllocError),
+            // A rule of the files as a whole is told by `new`.
+            Err(TextFault::Load(_)) => unreachable!(),
+        }
     }
 }
