@@ -1,7 +1,7 @@
 -- The files read again up to a statement that breaks a rule of meaning: the statements on the way
 -- are those that were met the first time.
-use Rattle.std.proofs.Common.{◌≡◌, ℕ, ◌+◌, ◌<◌, List, [], ◌∷◌, ◌++◌, length, true}
-use Rattle.std.proofs.Common.{refl, sym, ap, subst, ◌∙◌, arith, append_assoc}
+use Rattle.std.proofs.Common.{◌≡◌, ℕ, ◌+◌, ◌<◌, List, [], ◌∷◌, ◌++◌, length, take, true}
+use Rattle.std.proofs.Common.{refl, sym, ap, subst, ◌∙◌, arith, append_assoc, take_at}
 use Rattle.std.proofs.lemmas.List.{map-append, length-append}
 use Rattle.mm_text.specs.Files.{PlainFile}
 use Rattle.mm_text.specs.Reading.{Reads}
@@ -67,29 +67,13 @@ module _ {files : List PlainFile} {count : ℕ} (site : Site files count) where
       (let e = past.counted in let f = site.counted in omega arith)
 
   -- a statement is left
-  pub some_left : (n : ℕ) (left : Remaining) → IsPast files n left → n < count
-      → ¬ (left.statements ≡ [])
-  some_left n left past lt none =
-      let (s, rest, more, is, split) = past_next n left past lt in absurd (let e = sym none ∙ is in cc)
-
   pub site_left : (left : Remaining) → IsPast files count left → ¬ (left.statements ≡ [])
   site_left left past none = absurd (let e = sym none ∙ (past_at left past).1 in cc)
 
--- before any
-abbrev pub past_none : (files : List PlainFile) (left : Remaining) → IsUnread files left
-    → IsPast files 0 left
-past_none files left unread = record { earlier = []; reads = unread.reads; counted = refl }
-
--- one more
-abbrev pub past_more : (files : List PlainFile) (n : ℕ) (old new : Remaining) (s : PlainStatement)
-    (past : IsPast files n old) → TakesNext old true s new → IsPast files (n + 1) new
-past_more files n old new s past next = record {
-  earlier = past.earlier ++ s ∷ [];
-  reads = rw (append_assoc past.earlier (s ∷ []) new.statements)
-      (rw (next.0, sym (ap (λ (r : Remaining). r.ending) next.1)) at past.reads);
-  counted =
-      let e = length-append past.earlier (s ∷ []) in let f = past.counted in omega arith;
-}
+-- the first so many are those before the site
+pub taken_at : {files : List PlainFile} {count : ℕ} (site : Site files count)
+    → take count (site.before ++ site.s ∷ site.after) ≡ site.before
+taken_at {files} {count} site = take_at site.before (site.s ∷ site.after) count site.counted
 
 -- ---- what the progress has of them
 

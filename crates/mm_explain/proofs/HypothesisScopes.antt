@@ -14,7 +14,6 @@ use Rattle.mm_base.specs.declared.token.Token.{Token}
 use Rattle.mm_base.specs.Blocks.{openings, closings, is_opening}
 use Rattle.mm_base.specs.Blocks.{is_closing}
 use Rattle.mm_text.specs.Files.{PlainFile}
-use Rattle.mm_text.specs.Remaining.{IsUnread, Remaining}
 use Rattle.mm_base.specs.Statement.{PlainStatement}
 use Rattle.mm_base.specs.Token.{PlainToken, plain_token}
 use Rattle.mm_base.proofs.Lists.{get_kept, get_pushed, pushed_cases}
@@ -28,11 +27,8 @@ use Rattle.mm_explain.specs.declared.scope.Scope.TheVariants as scope
 use Rattle.mm_facts.specs.Explained.{Detail, detail_text, details_text, stated_at, block_ended_at}
 use Rattle.mm_explain.specs.HypothesisPlaces.{AreScopeFacts, AreTokenPlaces}
 use Rattle.mm_rules.specs.Places.{token_place}
-use Rattle.mm_explain.specs.Mirror.Breaches.{Site}
-use Rattle.mm_verdict.specs.Mirror.Judged.{TakesNext}
-use Rattle.mm_explain.specs.Mirror.Standing.{HasFirst, HasScope, IsScope}
+use Rattle.mm_explain.specs.Mirror.Standing.{HasFirst, IsScope}
 use Rattle.mm_rules.specs.Verdict.{sentences}
-use Rattle.mm_explain.proofs.Breaches.{past_at, past_more, past_none}
 
 -- ---- counts of one statement more
 
@@ -188,34 +184,9 @@ inner_few label earlier first inner (index, has, balanced, counted) =
     count_by-le-length (λ (s : PlainStatement). is_opening s.kind) (drop (index + 1) earlier) in
     omega (arith, few, counted, length-drop (index + 1) earlier)
 
--- ---- the files, statement by statement
-
-pub scope_none : (files : List PlainFile) (label : List ℕ) (left : Remaining) → IsUnread files left
-    → HasScope files 0 label scope.Unmet left
-scope_none files label left unread = record {
-  past = past_none files left unread;
-  is = λ (index, t, there, named). none-some t there;
-}
-
-pub scope_next : (files : List PlainFile) (n : ℕ) (label : List ℕ) (old new : Remaining)
-    (s : PlainStatement) (met next : Scope) → HasScope files n label met old
-    → TakesNext old true s new
-    → ((earlier : List PlainStatement) → IsScope label earlier met
-    → IsScope label (earlier ++ s ∷ []) next)
-    → HasScope files (n + 1) label next new
-scope_next files n label old new s met next has takes more = record {
-  past = past_more files n old new s has.past takes;
-  is = more has.past.earlier has.is;
-}
-
-pub scope_at : (files : List PlainFile) (count n : ℕ) (label : List ℕ) (met : Scope)
-    (left : Remaining) → HasScope files n label met left → n ≡ count → (site : Site files count)
-    → IsScope label site.before met
-scope_at files count n label met left has all site =
-    let here : HasScope files count label met left =
-    subst (λ (k : ℕ). HasScope files k label met left) all has in
-    subst (λ (ss : List PlainStatement). IsScope label ss met)
-    (past_at site left here.past).0 here.is
+-- none of no statements has it
+pub none_met : (label : List ℕ) → IsScope label [] scope.Unmet
+none_met label (index, t, there, named) = none-some t there
 
 -- ---- facts
 

@@ -5,8 +5,7 @@ use Rattle.std.proofs.Common.{reverse, append_assoc, append-nil, Option, Some, N
 use Rattle.std.specs.Prelude.{MatchOption, option_map}
 use Rattle.std.specs.Option.{option_to_list}
 use Rattle.mm_base.specs.Token.{plain_token}
-use Rattle.mm_text.specs.Reading.{PlainFault}
-use Rattle.mm_explain.specs.Mirror.Last.{IsOpenBlock, ReadsOn}
+use Rattle.mm_explain.specs.Mirror.Last.{IsOpenBlock}
 use Rattle.mm_explain.specs.TextFacts.{AreBlocksOpened, blocks_opened}
 use Rattle.std.proofs.lemmas.List.{reverse-append, take-map}
 use Rattle.mm_text.specs.declared.scope.OpenBlock.{OpenBlock}
@@ -16,10 +15,9 @@ use Rattle.mm_base.specs.declared.token.Token.{Token}
 use Rattle.mm_base.specs.Blocks.{AreBalanced, AreClosed, IsInnermost}
 use Rattle.mm_base.specs.Blocks.{is_opening, is_closing}
 use Rattle.mm_text.specs.Files.{PlainFile}
-use Rattle.mm_text.specs.Mirror.Reader.{PlainScope}
-use Rattle.mm_text.specs.Remaining.{IsUnread, Remaining}
+use Rattle.mm_text.specs.Mirror.Reader.{PlainScope, outermost}
 use Rattle.mm_base.specs.Statement.{PlainStatement}
-use Rattle.mm_text.proofs.Reader.OpenBlocks.{AreOpen, after_kind, scope_of, scope_after, scope_more}
+use Rattle.mm_text.proofs.Reader.OpenBlocks.{AreOpen, after_kind, scope_of, scope_after}
 use Rattle.mm_text.proofs.Reader.OpenBlocks.{scope_open, balanced_prefix}
 use Rattle.mm_text.proofs.Reader.WholeReadings.{readings_are_balanced}
 use Rattle.mm_frame.specs.declared.rule.MeaningRule.TheVariants.{M1}
@@ -27,10 +25,9 @@ use Rattle.mm_frame.specs.Active.{open_marks, close_marks}
 use Rattle.mm_frame.specs.Rules.{Breaks}
 use Rattle.mm_frame.specs.Sentence.{Sentence, sentence_of}
 use Rattle.mm_frame.proofs.Blocks.NumberedBlocks.{open_unclosed}
-use Rattle.mm_explain.specs.Mirror.Breaches.{IsBroken, IsPast, Site, position_of, positions_after}
+use Rattle.mm_explain.specs.Mirror.Breaches.{AreOpenBlocks, IsBroken, Site, position_of}
+use Rattle.mm_explain.specs.Mirror.Breaches.{positions_after, positions_from}
 use Rattle.mm_rules.specs.Verdict.{sentences}
-use Rattle.mm_verdict.specs.Mirror.Judged.{TakesNext}
-use Rattle.mm_explain.proofs.Breaches.{past_at, past_more, past_none}
 use Rattle.mm_verdict.proofs.Verdicts.AcceptedStatements.{counted_alike}
 
 -- where a block begins
@@ -55,20 +52,30 @@ after_one scope s Opening = refl
 after_one scope s Closing = mapped_drop scope.blocks
 after_one scope s kind = refl
 
-pub blocks_none : blocks_after [] ≡ []
+after_scope : (scope : PlainScope) (statements : List PlainStatement)
+    → positions_from (map block_position scope.blocks) statements
+    ≡ map block_position (scope_after scope statements).blocks
 unfolding scope_after
-blocks_none = refl
+after_scope scope [] = refl
+after_scope scope (s ∷ statements) =
+    ap (λ (ps : List (ℕ × ℕ)). positions_from ps statements) (sym (after_one scope s s.kind))
+    ∙ after_scope (after_kind scope s s.kind) statements
 
-pub blocks_more : (statements : List PlainStatement) (s : PlainStatement)
-    → blocks_after (statements ++ s ∷ [])
-    ≡ positions_after s.kind (s.first.file, s.first.at) (blocks_after statements)
-blocks_more statements s =
-    ap (λ (scope : PlainScope). map block_position scope.blocks) (scope_more statements s)
-    ∙ after_one (scope_of statements) s s.kind
+blocks_from : (statements : List PlainStatement)
+    → positions_from [] statements ≡ blocks_after statements
+blocks_from statements = after_scope outermost statements
+
+pub positions_more : (open_ones : List (ℕ × ℕ)) (statements : List PlainStatement)
+    (s : PlainStatement)
+    → positions_from open_ones (statements ++ s ∷ [])
+    ≡ positions_after s.kind (s.first.file, s.first.at) (positions_from open_ones statements)
+positions_more open_ones [] s = refl
+positions_more open_ones (t ∷ statements) s =
+    positions_more (positions_after t.kind (t.first.file, t.first.at) open_ones) statements s
 
 -- ---- the positions in a list, the innermost last
 
-pub block_pushed : (blocks : List Token) (t : Token)
+block_pushed : (blocks : List Token) (t : Token)
     → map position_of (reverse (blocks ++ t ∷ [])) ≡ position_of t ∷ map position_of (reverse blocks)
 block_pushed blocks t = ap (λ (ts : List Token). map position_of ts) (reverse-append blocks (t ∷ []))
 
@@ -88,7 +95,7 @@ innermost_of before (block ∷ blocks) p ps h e =
       ap (λ (q : ℕ × ℕ). q.1) (sym same) ∙ ap (λ (b : OpenBlock). b.at) h.3,
     )
 
-pub innermost_there : (before : List PlainStatement) (p : ℕ × ℕ) (ps : List (ℕ × ℕ))
+innermost_there : (before : List PlainStatement) (p : ℕ × ℕ) (ps : List (ℕ × ℕ))
     → AreBalanced before → blocks_after before ≡ p ∷ ps
     → (outer : List PlainStatement) × (opening : PlainStatement) × IsInnermost before outer opening
     × (p.0 ≡ opening.first.file) × (p.1 ≡ opening.first.at)
@@ -101,7 +108,7 @@ none_of before [] h e = h.1
 none_of before (block ∷ blocks) h e = absurd (cc)
 
 -- where no block is open, each is closed
-pub none_there : (before : List PlainStatement) → AreBalanced before → blocks_after before ≡ []
+none_there : (before : List PlainStatement) → AreBalanced before → blocks_after before ≡ []
     → AreClosed before
 none_there before balanced e =
     none_of before (scope_of before).blocks (scope_open before balanced) e
@@ -109,7 +116,7 @@ none_there before balanced e =
 -- ---- a `$c` in a block
 
 -- what breaks M1 stands in a block
-pub stands_in_block : (before : List PlainStatement) (s : Sentence) → AreBalanced before
+stands_in_block : (before : List PlainStatement) (s : Sentence) → AreBalanced before
     → Breaks M1 (sentences before) s → ¬ (AreClosed before)
 stands_in_block before s balanced (kind, index, still) closed =
     let cut : sentences (take index before) ≡ take index (sentences before) =
@@ -125,116 +132,38 @@ stands_in_block before s balanced (kind, index, still) closed =
     let d = closed in
     omega arith
 
+-- no `$}` before a statement of the files lacks its `${`
+pub balanced_before : {files : List PlainFile} {count : ℕ} (site : Site files count)
+    → AreBalanced site.before
+balanced_before {files} {count} site =
+    balanced_prefix site.before (site.s ∷ site.after)
+    (readings_are_balanced files (site.before ++ site.s ∷ site.after) site.ending site.reads)
+
 -- a block is open before a statement of the files that breaks M1
 pub block_open : (files : List PlainFile) (count : ℕ) → IsBroken files count M1
     → (site : Site files count) × ¬ (AreClosed site.before)
 block_open files count known =
     let site = known.site in
-    let whole = readings_are_balanced files (site.before ++ site.s ∷ site.after) site.ending site.reads in
-    (site, stands_in_block site.before (sentence_of site.s) (balanced_prefix site.before (site.s ∷ site.after) whole) known.broken.broken)
+    (site, stands_in_block site.before (sentence_of site.s) (balanced_before site) known.broken.broken)
 
--- what is known of the blocks once all before the site are read
-module _ {files : List PlainFile} {count : ℕ} (left : Remaining) (past : IsPast files count left)
-    (site : Site files count) where
-  same_before : past.earlier ≡ site.before
-  same_before = (past_at site left past).0
-
-  balanced_before : AreBalanced site.before
-  balanced_before =
-      balanced_prefix site.before (site.s ∷ site.after)
-      (readings_are_balanced files (site.before ++ site.s ∷ site.after) site.ending site.reads)
-
-  -- the last of them is the innermost
-  pub last_block : (blocks rest : List Token) (t : Token)
-      → map position_of (reverse blocks) ≡ blocks_after past.earlier → blocks ≡ rest ++ t ∷ []
-      → (outer : List PlainStatement) × (opening : PlainStatement)
-      × IsInnermost site.before outer opening
-      × (t.file ≡ opening.first.file) × (t.at ≡ opening.first.at)
-  last_block blocks rest t are is =
-      innermost_there site.before (position_of t) (map position_of (reverse rest)) balanced_before
-      (ap blocks_after (sym same_before) ∙ sym are
-      ∙ ap (λ (ts : List Token). map position_of (reverse ts)) is ∙ block_pushed rest t)
-
-  -- there is one
-  pub some_block : (blocks : List Token) → map position_of (reverse blocks) ≡ blocks_after past.earlier
-      → ¬ (AreClosed site.before) → ¬ (blocks ≡ [])
-  some_block blocks are opened none =
-      opened (none_there site.before balanced_before
-      (ap blocks_after (sym same_before) ∙ sym are
-      ∙ ap (λ (ts : List Token). map position_of (reverse ts)) none))
-
--- So many statements were read, and these blocks are open after them, the innermost last.
-pub record HasBlocks (files : List PlainFile) (count : ℕ) (blocks : List Token)
-    (left : Remaining) : Type 0 where
-  pub past : IsPast files count left
-  pub blocks_are : map position_of (reverse blocks) ≡ blocks_after past.earlier
-
-pub has_none : (files : List PlainFile) (left : Remaining) → IsUnread files left
-    → HasBlocks files 0 [] left
-has_none files left unread =
-    record { past = past_none files left unread; blocks_are = sym blocks_none }
-
-pub has_more : (files : List PlainFile) (n : ℕ) (old new : Remaining) (s : PlainStatement)
-    (blocks more : List Token) → HasBlocks files n blocks old → TakesNext old true s new
-    → map position_of (reverse more)
-    ≡ positions_after s.kind (s.first.file, s.first.at) (map position_of (reverse blocks))
-    → HasBlocks files (n + 1) more new
-has_more files n old new s blocks more has next are = record {
-  past = past_more files n old new s has.past next;
-  blocks_are = are
-      ∙ ap (positions_after s.kind (s.first.file, s.first.at)) has.blocks_are
-      ∙ sym (blocks_more has.past.earlier s);
-}
+-- ---- the last of the blocks that are open
 
 pub empty_list : {X : Type 0} (xs : List X) → length xs ≡ 0 → xs ≡ []
 empty_list [] is = refl
 empty_list (x ∷ xs) is = absurd (omega arith)
 
--- ---- the reading up to a fault of the text
-
--- The statements so far and those left are these, which the reading ends so; these blocks are open
--- after those so far, the innermost last.
-pub record IsReadingBlocks (all : List PlainStatement) (ending : Option PlainFault)
-    (left : Remaining) (blocks : List Token) : Type 0 where
-  pub so_far : List PlainStatement
-  pub whole : all ≡ so_far ++ left.statements
-  pub same : left.ending ≡ ending
-  pub blocks_are : map position_of (reverse blocks) ≡ blocks_after so_far
-
-pub reading_no_block : (left : Remaining) → IsReadingBlocks left.statements left.ending left []
-reading_no_block left =
-    record { so_far = []; whole = refl; same = refl; blocks_are = sym blocks_none }
-
-pub reading_block_on : {all : List PlainStatement} {ending : Option PlainFault} {old : Remaining}
-    {blocks : List Token} → IsReadingBlocks all ending old blocks → (new : Remaining)
-    (s : PlainStatement) (more : List Token) → ReadsOn old true s new
-    → map position_of (reverse more)
-    ≡ positions_after s.kind (s.first.file, s.first.at) (map position_of (reverse blocks))
-    → IsReadingBlocks all ending new more
-reading_block_on r new s more on are = record {
-  so_far = r.so_far ++ s ∷ [];
-  whole = r.whole ∙ ap (λ ss. r.so_far ++ ss) on.0
-      ∙ sym (append_assoc r.so_far (s ∷ []) new.statements);
-  same = on.1 ∙ r.same;
-  blocks_are = are
-      ∙ ap (positions_after s.kind (s.first.file, s.first.at)) r.blocks_are
-      ∙ sym (blocks_more r.so_far s);
-}
-
--- once none is left, the last block is the innermost that is open, if one is
-pub open_block_there : {all : List PlainStatement} {ending : Option PlainFault} {left : Remaining}
-    {blocks : List Token} (r : IsReadingBlocks all ending left blocks) → left.statements ≡ []
-    → AreBalanced all → (rest : List Token) (block : Option Token)
-    → MatchOption block (blocks ≡ []) (λ t. blocks ≡ rest ++ t ∷ []) → IsOpenBlock all block
-open_block_there {all} {ending} {left} {blocks} r none balanced rest None is =
-    let whole : r.so_far ≡ all = sym (r.whole ∙ ap (λ ss. r.so_far ++ ss) none ∙ append-nil r.so_far) in
-    none_there all balanced
-    (ap blocks_after (sym whole) ∙ sym r.blocks_are
+-- it is the innermost, if one is
+pub open_block_there : (statements : List PlainStatement) (blocks rest : List Token)
+    (block : Option Token) → AreBalanced statements → AreOpenBlocks statements blocks
+    → MatchOption block (blocks ≡ []) (λ t. blocks ≡ rest ++ t ∷ [])
+    → IsOpenBlock statements block
+open_block_there statements blocks rest None balanced are is =
+    none_there statements balanced
+    (sym (blocks_from statements) ∙ sym are
     ∙ ap (λ (ts : List Token). map position_of (reverse ts)) is)
-open_block_there {all} {ending} {left} {blocks} r none balanced rest (Some t) is =
-    let whole : r.so_far ≡ all = sym (r.whole ∙ ap (λ ss. r.so_far ++ ss) none ∙ append-nil r.so_far) in
-    innermost_there all (position_of t) (map position_of (reverse rest)) balanced
-    (ap blocks_after (sym whole) ∙ sym r.blocks_are
+open_block_there statements blocks rest (Some t) balanced are is =
+    innermost_there statements (position_of t) (map position_of (reverse rest)) balanced
+    (sym (blocks_from statements) ∙ sym are
     ∙ ap (λ (ts : List Token). map position_of (reverse ts)) is ∙ block_pushed rest t)
 
 -- what is told of it

@@ -2,7 +2,7 @@
 -- written explain it. `text_fault.rt`, `last.rt` and `why.rt` rest on it.
 use Rattle.std.proofs.Common.{◌≡◌, ℕ, ◌-◌, List, [], ◌∷◌, ◌++◌, map, filter, length, Bool, true, false}
 use Rattle.std.proofs.Common.{Option, Some, None, if◌then◌else◌, slice_get, inl, inr, refl, sym, ap}
-use Rattle.std.proofs.Common.{Result, Ok, Err, OnOk, option_map, ◌⊎◌, Bor}
+use Rattle.std.proofs.Common.{Result, Ok, Err, OnOk, IfSome, option_map, ◌⊎◌, Bor}
 use Rattle.std.proofs.Common.{◌∙◌, subst, arith, length-append, append_assoc, append-nil}
 use Rattle.std.proofs.lemmas.List.{map-append}
 use Rattle.std.proofs.lemmas.List.Elements.{filter-append}
@@ -15,8 +15,7 @@ use Rattle.mm_base.specs.Statement.{PlainStatement}
 use Rattle.mm_base.specs.Blocks.{is_closing}
 use Rattle.mm_text.specs.Files.{PlainFile}
 use Rattle.mm_text.specs.Reading.{PlainFault, Reads}
-use Rattle.mm_text.specs.Remaining.{Remaining}
-use Rattle.mm_base.proofs.Lists.{get_parted, get_pushed}
+use Rattle.mm_base.proofs.Lists.{get_kept, get_pushed}
 use Rattle.mm_frame.specs.Rules.{AllMeant}
 use Rattle.mm_step.specs.declared.profile.Profile.{Profile}
 use Rattle.mm_rules.specs.Verdict.{PlainRefusal, CanBeRead, sentences, text_refusal}
@@ -29,8 +28,7 @@ use Rattle.mm_rules.specs.Places.{bytes_of}
 use Rattle.mm_explain.specs.TextFacts.{AreBegun, AreOrigins, AreTextFacts, blocks_closed}
 use Rattle.mm_explain.specs.TextFacts.{blocks_opened, closing_tokens}
 use Rattle.mm_explain.specs.TextFacts.{files_up_to, last_of, places_begun, token_from, unclosed_in}
-use Rattle.mm_explain.specs.Mirror.Last.{EndsRun, IsBegin, IsOpenBlock, IsReading, IsSearching}
-use Rattle.mm_explain.specs.Mirror.Last.{ReadsOn, TellsOrigins}
+use Rattle.mm_explain.specs.Mirror.Last.{EndsRun, IsBegin, IsOpenBlock, TellsOrigins}
 use Rattle.mm_facts.proofs.NearLabels.{name_kept}
 use Rattle.mm_explain.proofs.InnermostBlocks.{opened_there}
 use Rattle.mm_verdict.proofs.Verdicts.FaultLists.{meant_more}
@@ -106,7 +104,7 @@ ends_run profile files listed last other faults =
     last_refused profile files faults.readable last other [] faults.statements faults.ending listed
     faults.reads none_meant faults.refused
 
--- ==== the second reading
+-- ==== the last `$}`
 
 -- the last one of those that one more follows
 last_pushed : {X : Type 0} (xs : List X) (x : X) → last_of (xs ++ x ∷ []) ≡ Some x
@@ -125,7 +123,7 @@ closing_more so_far s =
     (filter (λ (t : PlainStatement). is_closing t.kind) (s ∷ []))
 
 -- the last `$}`, with one statement more
-last_closing : (so_far : List PlainStatement) (s : PlainStatement) (b : Bool)
+pub last_closing : (so_far : List PlainStatement) (s : PlainStatement) (b : Bool)
     → is_closing s.kind ≡ b
     → last_of (closing_tokens (so_far ++ s ∷ []))
     ≡ (if b then Some s.first else last_of (closing_tokens so_far))
@@ -137,19 +135,6 @@ last_closing so_far s false is =
     let own : closing_tokens (s ∷ []) ≡ [] = rw is refl in
     ap last_of (closing_more so_far s ∙ ap (λ ts. closing_tokens so_far ++ ts) own
     ∙ append-nil (closing_tokens so_far))
-
--- one more statement is read
-pub reading_on : {all : List PlainStatement} {ending : Option PlainFault} {old : Remaining}
-    {closed : Option PlainToken} → IsReading all ending old closed → (new : Remaining)
-    (s : PlainStatement) → ReadsOn old true s new → (b : Bool) → is_closing s.kind ≡ b
-    → IsReading all ending new (if b then Some s.first else closed)
-reading_on r new s on b is = record {
-  so_far = r.so_far ++ s ∷ [];
-  whole = r.whole ∙ ap (λ ss. r.so_far ++ ss) on.0
-      ∙ sym (append_assoc r.so_far (s ∷ []) new.statements);
-  same = on.1 ∙ r.same;
-  last = rw r.last (sym (last_closing r.so_far s b is));
-}
 
 -- ==== the facts
 
@@ -283,36 +268,24 @@ text_told files refusal statements fault reads refused bytes token start middle 
 
 -- ==== the search for a label
 
--- what is offered is the label of a statement that was left
-pub label_met : (all : List PlainStatement) (old new : Remaining) (found : Option (Bor (List ℕ)))
-    (s : PlainStatement) (label : List ℕ) → IsSearching all old found → ReadsOn old true s new
-    → option_map (λ (t : PlainToken). t.text) s.label ≡ Some label → IsLabelOf all label
-label_met all old new found s label search on is =
-    let there : slice_get all (length search.so_far) ≡ Some s =
-    ap (λ (ss : List PlainStatement). slice_get ss (length search.so_far))
-    (search.whole ∙ ap (λ ss. search.so_far ++ ss) on.0)
-    ∙ get_parted search.so_far new.statements s in
-    (s, (length search.so_far, there, is))
-
-module _ (all : List PlainStatement) (old new : Remaining) (found : Option (Bor (List ℕ)))
-    (s : PlainStatement) (search : IsSearching all old found) (on : ReadsOn old true s new) where
-  more_so_far : all ≡ (search.so_far ++ s ∷ []) ++ new.statements
-  more_so_far =
-      search.whole ∙ ap (λ ss. search.so_far ++ ss) on.0
-      ∙ sym (append_assoc search.so_far (s ∷ []) new.statements)
+module _ (passed : List PlainStatement) (s : PlainStatement) where
+  label_kept : (label : List ℕ) → IsLabelOf passed label → IsLabelOf (passed ++ s ∷ []) label
+  label_kept label (t, (index, there, named)) =
+      (t, (index, get_kept passed (s ∷ []) index t there, named))
 
   -- a statement without a label is passed over
-  pub searched_past : IsSearching all new found
-  searched_past =
-      record { so_far = search.so_far ++ s ∷ []; whole = more_so_far; labels = search.labels }
+  pub searched_past : (found : Option (Bor (List ℕ)))
+      → IfSome found (λ near. IsLabelOf passed near.now)
+      → IfSome found (λ near. IsLabelOf (passed ++ s ∷ []) near.now)
+  searched_past None before = before
+  searched_past (Some near) before = label_kept near.now before
 
   -- the label of another is offered
-  pub searched_on : (label : Bor (List ℕ)) (after : Option (Bor (List ℕ)))
+  pub searched_on : (label : Bor (List ℕ)) (found after : Option (Bor (List ℕ)))
+      → IfSome found (λ near. IsLabelOf passed near.now)
       → option_map (λ (t : PlainToken). t.text) s.label ≡ Some label.now
-      → (after ≡ found) ⊎ (after ≡ Some label) → IsSearching all new after
-  searched_on label after is kept = record {
-    so_far = search.so_far ++ s ∷ [];
-    whole = more_so_far;
-    labels = name_kept (IsLabelOf all) label found after search.labels
-        (label_met all old new found s label.now search on is) kept;
-  }
+      → (after ≡ found) ⊎ (after ≡ Some label)
+      → IfSome after (λ near. IsLabelOf (passed ++ s ∷ []) near.now)
+  searched_on label found after before is kept =
+      name_kept (IsLabelOf (passed ++ s ∷ [])) label found after (searched_past found before)
+      (s, (length passed, get_pushed passed s, is)) kept

@@ -18,8 +18,8 @@ use Rattle.mm_base.specs.Token.{PlainToken, plain_token}
 use Rattle.mm_base.specs.Statement.{PlainStatement}
 use Rattle.mm_text.specs.Files.{PlainFile}
 use Rattle.mm_text.specs.Reading.{PlainFault, Reads}
-use Rattle.mm_text.specs.Remaining.{IsUnread, Remaining}
 use Rattle.mm_base.proofs.Lists.{take_next, split_at}
+use Rattle.mm_text.proofs.Reader.WholeReadings.{each_has_one_reading}
 use Rattle.mm_frame.specs.Sentence.{Sentence}
 use Rattle.mm_step.specs.declared.fault.ProofRule.{ProofRule}
 use Rattle.mm_step.specs.declared.fault.ProofRule.TheVariants.{P2, P6, P7}
@@ -32,39 +32,24 @@ use Rattle.mm_step.specs.Profiles.{limit_of}
 use Rattle.mm_places.specs.WholePlaces.{IsWholePlace}
 use Rattle.mm_facts.specs.Explained.{IsTokensFault, judged_tokens}
 use Rattle.mm_explain.specs.Later.{IsUnknownIn, first_stated}
-use Rattle.mm_explain.specs.Mirror.Last.{IsListing, ReadsOn}
 use Rattle.mm_explain.specs.Mirror.Reasons.{AreKeptLabels, AreLabelsIn}
 use Rattle.mm_explain.proofs.NamesMet.{find-append}
 use Rattle.mm_verdict.proofs.Verdicts.AcceptedStatements.{same_reading}
 
 -- ==== the labels that are read
 
--- one more statement is read
-pub listing_on : {all : List PlainStatement} {ending : Option PlainFault} {old : Remaining}
-    {labels : List (Option PlainToken)} → IsListing all ending old labels → (new : Remaining)
-    (s : PlainStatement) → ReadsOn old true s new
-    → IsListing all ending new (labels ++ s.label ∷ [])
-listing_on r new s on = record {
-  so_far = r.so_far ++ s ∷ [];
-  whole = r.whole ∙ ap (λ ss. r.so_far ++ ss) on.0
-      ∙ sym (append_assoc r.so_far (s ∷ []) new.statements);
-  same = on.1 ∙ r.same;
-  listed = ap (λ ls. ls ++ s.label ∷ []) r.listed
-      ∙ sym (map-append (λ (t : PlainStatement). t.label) r.so_far (s ∷ []));
-}
-
--- none is left
-pub all_listed : (files : List PlainFile) (unread left : Remaining)
-    (labels : List (Option PlainToken)) → IsUnread files unread
-    → IsListing unread.statements unread.ending left labels → left.statements ≡ []
+-- those of all statements
+pub all_listed : (files : List PlainFile) (labels : List (Option PlainToken))
+    → ((statements : List PlainStatement) (ending : Option PlainFault)
+    → Reads files statements ending → labels ≡ map (λ s. s.label) statements)
     → AreLabelsIn files labels
-all_listed files unread left labels begun r none = record {
-  statements = unread.statements;
-  ending = unread.ending;
-  reads = begun.reads;
-  listed = r.listed ∙ ap (map (λ (t : PlainStatement). t.label))
-      (sym (r.whole ∙ ap (λ ss. r.so_far ++ ss) none ∙ append-nil r.so_far));
-}
+all_listed files labels listed =
+    let one = each_has_one_reading files in record {
+      statements = one.statements;
+      ending = one.ending;
+      reads = one.reads;
+      listed = listed one.statements one.ending one.reads;
+    }
 
 -- ==== those behind a statement
 

@@ -13,16 +13,11 @@ use Rattle.mm_base.proofs.Lists.{take_next}
 use Rattle.mm_base.specs.declared.statement.Kind.{Kind}
 use Rattle.mm_base.specs.declared.statement.Kind.TheVariants.{Floating}
 use Rattle.mm_base.specs.declared.token.Token.{Token}
-use Rattle.mm_text.specs.Files.{PlainFile}
-use Rattle.mm_text.specs.Remaining.{IsUnread, Remaining}
 use Rattle.mm_base.specs.Statement.{PlainStatement}
 use Rattle.mm_base.specs.Token.{PlainToken, plain_token}
 use Rattle.mm_frame.specs.declared.rule.MeaningRule.{MeaningRule}
 use Rattle.mm_explain.specs.MeaningFacts.{Mention, mentions, last_met, typed_by}
 use Rattle.mm_explain.specs.MeaningFacts.{looked_at}
-use Rattle.mm_explain.specs.Mirror.Breaches.{HasMet, Site}
-use Rattle.mm_verdict.specs.Mirror.Judged.{TakesNext}
-use Rattle.mm_explain.proofs.Breaches.{past_at, past_more, past_none}
 
 -- ---- the last of two parts
 
@@ -141,30 +136,3 @@ typed_found name kind first items tokens found floating rest is =
     ∙ typed_where name first (drop 1 (map plain_token items))
     ∙ ap (λ (vs : List PlainToken). option_map (λ (v : PlainToken). first) (last_met name (mentions vs))) variables
     ∙ ap (option_map (λ (v : PlainToken). first)) (sym is)
-
--- ---- the files, statement by statement
-
-pub met_none : (files : List PlainFile) (rule : MeaningRule) (name : List ℕ) (left : Remaining)
-    → IsUnread files left → HasMet files 0 rule name None left
-met_none files rule name left unread = record { past = past_none files left unread; met = refl }
-
-pub met_next : (files : List PlainFile) (n : ℕ) (rule : MeaningRule) (name : List ℕ)
-    (old new : Remaining) (s : PlainStatement) (now last : Option Token)
-    → HasMet files n rule name (option_map plain_token last) old → TakesNext old true s new
-    → option_map plain_token now ≡ last_met name (looked_at rule s)
-    → HasMet files (n + 1) rule name (option_map plain_token (option_or now last)) new
-met_next files n rule name old new s now last has next here = record {
-  past = past_more files n old new s has.past next;
-  met = statement_more rule name has.past.earlier s now last here has.met;
-}
-
-pub met_at : (files : List PlainFile) (count n : ℕ) (rule : MeaningRule) (name : List ℕ)
-    (last : Option PlainToken) (left : Remaining) → HasMet files n rule name last left
-    → n ≡ count → (site : Site files count)
-    → last ≡ last_met name (flat_map (looked_at rule) site.before)
-met_at files count n rule name last left has all site =
-    let here : HasMet files count rule name last left =
-    subst (λ (k : ℕ). HasMet files k rule name last left) all has in
-    here.met
-    ∙ ap (λ (ss : List PlainStatement). last_met name (flat_map (looked_at rule) ss))
-    (past_at site left here.past).0

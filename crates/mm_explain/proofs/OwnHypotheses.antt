@@ -14,7 +14,6 @@ use Rattle.mm_base.specs.declared.statement.Kind.{Kind}
 use Rattle.mm_base.specs.declared.statement.Kind.TheVariants.{Provable}
 use Rattle.mm_base.specs.declared.token.Token.{Token}
 use Rattle.mm_text.specs.Files.{PlainFile}
-use Rattle.mm_text.specs.Remaining.{IsUnread, Remaining}
 use Rattle.mm_base.specs.Statement.{PlainStatement}
 use Rattle.mm_base.specs.Token.{PlainToken, plain_token}
 use Rattle.mm_base.proofs.Lists.{get_kept, one_there, pushed_cases, take_next, zip_push}
@@ -32,17 +31,14 @@ use Rattle.mm_explain.specs.HypothesisPlaces.{AreOwnHypotheses, IsHypothesisFact
 use Rattle.mm_rules.specs.Places.{token_place}
 use Rattle.mm_rules.specs.Places.{place_of, place_text}
 use Rattle.mm_rules.specs.declared.position.Place.{Place}
-use Rattle.mm_explain.specs.Mirror.Breaches.{Site}
-use Rattle.mm_verdict.specs.Mirror.Judged.{TakesNext}
-use Rattle.mm_explain.specs.Mirror.Standing.{AddsEach, AreEarlier, HasFirsts, IsPlaced, firsts_of}
+use Rattle.mm_explain.specs.Mirror.Standing.{AddsEach, AreEarlier, IsPlaced, firsts_of}
 use Rattle.mm_rules.specs.Verdict.{sentences}
-use Rattle.mm_explain.proofs.Breaches.{past_at, past_more, past_none}
 use Rattle.mm_verdict.proofs.Questions.TheoremsAgain.{said_label}
 use Rattle.mm_rules.proofs.Judgements.JudgedProofs.{prefix_of}
 
 -- ---- first tokens of labelled statements
 
-firsts_append : (a b : List PlainStatement) → firsts_of (a ++ b) ≡ firsts_of a ++ firsts_of b
+pub firsts_append : (a b : List PlainStatement) → firsts_of (a ++ b) ≡ firsts_of a ++ firsts_of b
 firsts_append a b =
     ap (map (λ (s : PlainStatement). s.first))
     (filter-append (λ (s : PlainStatement). is_some s.label) a b)
@@ -112,29 +108,6 @@ first_there [] number h there = absurd (none-some h there)
 first_there (s ∷ before) number h there =
     first_in s before number h (λ n. first_there before n h) (is_some s.label) refl
     (said_label s.label) there
-
--- ---- the files, statement by statement
-
-pub firsts_none : (files : List PlainFile) (left : Remaining) → IsUnread files left
-    → HasFirsts files 0 [] left
-firsts_none files left unread = record { past = past_none files left unread; are = refl }
-
-pub firsts_next : (files : List PlainFile) (n : ℕ) (old new : Remaining) (s : PlainStatement)
-    (firsts more : List PlainToken) → HasFirsts files n firsts old → TakesNext old true s new
-    → more ≡ firsts ++ firsts_of (s ∷ []) → HasFirsts files (n + 1) more new
-firsts_next files n old new s firsts more has takes is = record {
-  past = past_more files n old new s has.past takes;
-  are = is ∙ ap (λ l. l ++ firsts_of (s ∷ [])) has.are
-      ∙ sym (firsts_append has.past.earlier (s ∷ []));
-}
-
-pub firsts_at : (files : List PlainFile) (count n : ℕ) (firsts : List PlainToken)
-    (left : Remaining) → HasFirsts files n firsts left → n ≡ count → (site : Site files count)
-    → firsts ≡ firsts_of site.before
-firsts_at files count n firsts left has all site =
-    let here : HasFirsts files count firsts left =
-    subst (λ (k : ℕ). HasFirsts files k firsts left) all has in
-    here.are ∙ ap firsts_of (past_at site left here.past).0
 
 -- ---- the facts of hypotheses, one after the other
 

@@ -7,24 +7,22 @@ ghost use Rattle.mm_base.specs.Statement.{PlainStatement};
 ghost use Rattle.mm_rules.specs.Answer.{plain_refusal};
 ghost use Rattle.mm_facts.specs.Explained.{Detail, details_text};
 ghost use Rattle.mm_explain.specs.MeaningFacts.{AreEarlierFacts, AreMeaningFacts};
-ghost use Rattle.mm_explain.specs.Mirror.Breaches.{IsBreach, IsStopped, Site, positions_after};
-ghost use Rattle.mm_explain.specs.Mirror.Breaches.{position_of};
+ghost use Rattle.mm_explain.specs.Mirror.Breaches.{AreOpenBlocks, IsBreach, IsStopped, Site};
+ghost use Rattle.mm_explain.specs.Mirror.Breaches.{position_of, positions_after};
 ghost use Rattle.mm_rules.specs.Verdict.{CanBeRead};
 ghost use Rattle.mm_rules.specs.declared.rule.Rule.TheVariants.{Meaning};
 
 use crate::earlier_declaration::last_met_before;
-use crate::semantic_error::{Breach, read_breach, read_next, reader};
+use crate::semantic_error::{Breach, read_breach};
 use mm_base::{File, Kind, Seed, Statement, Token};
 use mm_facts::{push_block, push_met, push_token};
 use mm_frame::MeaningRule;
 use mm_rules::{Refusal, Rule};
+use mm_text::{Passing, pass_first};
 use std::alloc::{AllocError, Global};
 
 /// The blocks that are open once a statement more is read, the innermost last.
-pub(crate) fn pass_block<'a>(
-    blocks: &mut Vec<Token<'a>>,
-    statement: &Statement<'a>,
-) -> Result<(), AllocError>
+fn pass_block<'a>(blocks: &mut Vec<Token<'a>>, statement: &Statement<'a>) -> Result<(), AllocError>
     ensures { OnOk result (map position_of (reverse blocks.new.items)
         ≡ positions_after statement.now.kind (position_of statement.now.first)
         (map position_of (reverse blocks.old.items))) }
@@ -42,6 +40,20 @@ pub(crate) fn pass_block<'a>(
     }
 }
 
+/// The tokens of the blocks that are open after some statements, the innermost last.
+#[derive(Drop)]
+pub(crate) struct OpenBlocks<'a> {
+    pub blocks: Vec<Token<'a>>,
+}
+
+impl<'a> Passing<'a> for OpenBlocks<'a> {
+    ghost has_passed = { λ first now passed. AreOpenBlocks passed now.blocks.items };
+
+    fn pass(&mut self, statement: &Statement<'a>) -> Result<(), AllocError> {
+        pass_block(&mut self.blocks, statement)
+    }
+}
+
 /// Where the innermost of the blocks begins that are open after so many statements.
 fn innermost_before<'a>(
     alloc: Global,
@@ -56,14 +68,11 @@ fn innermost_before<'a>(
         × IsInnermost site.before outer opening
         × (token.file ≡ opening.first.file) × (token.at ≡ opening.first.at)) }
 {
-    let mut statements = reader(alloc, seed, files)?;
-    let mut statement = Statement::empty(alloc);
-    let mut blocks: Vec<Token<'a>> = Vec::new(alloc);
-    for _ in 0..count {
-        read_next(&mut statements, &mut statement)?;
-        pass_block(&mut blocks, &statement)?;
-    }
-    match blocks.pop() {
+    let mut open = OpenBlocks {
+        blocks: Vec::new(alloc),
+    };
+    pass_first(alloc, seed, files, count, &mut open)?;
+    match open.blocks.pop() {
         Some(token) => Ok(token),
         // A block is open.
         None => unreachable!(),

@@ -9,12 +9,13 @@ ghost use Rattle.mm_base.specs.Token.{plain_token};
 ghost use Rattle.mm_explain.specs.MeaningFacts.{declared_by, last_met, looked_at, looked_at_within};
 ghost use Rattle.mm_explain.specs.MeaningFacts.{last_looked_at, mentions, symbols_before};
 ghost use Rattle.mm_explain.specs.MeaningFacts.{token_at, typed_by};
-ghost use Rattle.mm_explain.specs.Mirror.Breaches.{IsBreach, Site};
+ghost use Rattle.mm_explain.specs.Mirror.Breaches.{HasMet, IsBreach, Site};
 ghost use Rattle.mm_rules.specs.Verdict.{CanBeRead};
 
-use crate::semantic_error::{Breach, read_next, reader};
+use crate::semantic_error::Breach;
 use mm_base::{File, Kind, Seed, Statement, Token};
 use mm_frame::MeaningRule;
+use mm_text::{Passing, pass_first};
 use std::alloc::{AllocError, Global};
 
 /// The token, where its text is the name.
@@ -127,6 +128,23 @@ fn last_within<'a>(breach: &Breach<'a>, name: &[u8]) -> Option<Token<'a>>
     }
 }
 
+/// Where a name was met last, of what a rule looks at.
+#[derive(Drop)]
+struct LastMet<'n, 'a> {
+    rule: MeaningRule,
+    name: &'n [u8],
+    last: Option<Token<'a>>,
+}
+
+impl<'n, 'a> Passing<'a> for LastMet<'n, 'a> {
+    ghost has_passed = { HasMet };
+
+    fn pass(&mut self, statement: &Statement<'a>) -> Result<(), AllocError> {
+        self.last = last_in(statement, self.rule, self.name).or(self.last);
+        Ok(())
+    }
+}
+
 /// Where the name was met last in so many statements of the files, of what the rule looks at.
 fn last_before<'a>(
     alloc: Global,
@@ -142,14 +160,13 @@ fn last_before<'a>(
         → option_map plain_token last
         ≡ last_met name.now (flat_map (looked_at rule) site.before)) }
 {
-    let mut statements = reader(alloc, seed, files)?;
-    let mut statement = Statement::empty(alloc);
-    let mut last = None;
-    for _ in 0..count {
-        read_next(&mut statements, &mut statement)?;
-        last = last_in(&statement, rule, name).or(last);
-    }
-    Ok(last)
+    let mut met = LastMet {
+        rule,
+        name,
+        last: None,
+    };
+    pass_first(alloc, seed, files, count, &mut met)?;
+    Ok(met.last)
 }
 
 /// Where the name of the token at fault was met last before, of what the rule looks at.

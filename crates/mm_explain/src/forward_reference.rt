@@ -11,10 +11,25 @@ ghost use Rattle.mm_rules.specs.Places.{token_place};
 ghost use Rattle.mm_rules.specs.Verdict.{CanBeRead};
 
 use crate::place_lines::push_stated_later;
-use crate::semantic_error::reader;
-use crate::text_fault::next;
 use mm_base::{File, Seed, Statement, Token};
+use mm_text::{Passing, pass_all};
 use std::alloc::{AllocError, Global};
+
+/// The labels of some statements.
+#[derive(Drop)]
+struct Labels<'a> {
+    labels: Vec<Option<Token<'a>>>,
+}
+
+impl<'a> Passing<'a> for Labels<'a> {
+    ghost has_passed = { λ first now passed.
+        map (option_map plain_token) now.labels.items ≡ map (λ s. s.label) passed };
+
+    fn pass(&mut self, statement: &Statement<'a>) -> Result<(), AllocError> {
+        self.labels.push(statement.label)?;
+        Ok(())
+    }
+}
 
 /// The labels of all statements of the files, up to the end or to the fault of the text.
 pub(crate) fn read_labels<'a>(
@@ -26,13 +41,11 @@ pub(crate) fn read_labels<'a>(
     ensures { IfOk result (λ labels. AreLabelsIn (map plain_file files.now)
         (map (option_map plain_token) labels.items)) }
 {
-    let mut statements = reader(alloc, seed, files)?;
-    let mut statement = Statement::empty(alloc);
-    let mut labels = Vec::new(alloc);
-    while next(&mut statements, &mut statement)? {
-        labels.push(statement.label)?;
-    }
-    Ok(labels)
+    let mut labels = Labels {
+        labels: Vec::new(alloc),
+    };
+    pass_all(alloc, seed, files, &mut labels)?;
+    Ok(labels.labels)
 }
 
 /// The labels from an index on.

@@ -4,28 +4,29 @@ ghost use Rattle.std.specs.Prelude.{◌≡◌, List, None, map, IfOk, IfSome, On
 ghost use Rattle.mm_text.specs.Files.{plain_file};
 ghost use Rattle.mm_explain.specs.Near.{IsLabelIn, IsLabelOf};
 
-use crate::text_fault::next;
 use mm_base::{File, Seed, Statement};
 use mm_facts::Nearest;
-use mm_text::{Statements, TextFault};
+use mm_rules::CheckFault;
+use mm_text::{Passing, pass_next};
+use mm_verdict::load;
 use std::alloc::{AllocError, Global};
 
-/// Offers the labels of the statements that are left, up to the end or to the fault.
-fn offer_labels<'a>(
-    statements: &mut Statements<'a>,
-    into: &mut Statement<'a>,
-    nearest: &mut Nearest<'_, 'a>,
-) -> Result<(), AllocError>
-    requires { nearest.old.found ≡ None }
-    ensures { OnOk result (IfSome nearest.new.found
-        (λ near. IsLabelOf statements.old.statements near.now)) }
-{
-    while next(statements, into)? {
-        if let Some(label) = &into.label {
-            nearest.offer(label.text)?;
+/// What the labels of statements are offered to.
+#[derive(Drop)]
+struct Offers<'w, 'a> {
+    nearest: Nearest<'w, 'a>,
+}
+
+impl<'w, 'a> Passing<'a> for Offers<'w, 'a> {
+    ghost has_passed = { λ first now passed. first.nearest.found ≡ None
+        → IfSome now.nearest.found (λ near. IsLabelOf passed near.now) };
+
+    fn pass(&mut self, statement: &Statement<'a>) -> Result<(), AllocError> {
+        match &statement.label {
+            Some(label) => self.nearest.offer(label.text),
+            None => Ok(()),
         }
     }
-    Ok(())
 }
 
 /// The label of a statement of the files that is nearest to this one, which no statement has: it
@@ -41,14 +42,14 @@ pub fn nearest_label<'a>(
     ensures { IfOk result (λ found. IfSome found
         (λ near. IsLabelIn (map plain_file files.now) near.now)) }
 {
-    let mut statements = match Statements::new(alloc, seed, files) {
+    let mut statements = match load(alloc, seed, files) {
         Ok(statements) => statements,
-        Err(TextFault::Memory) => return Err(AllocError),
+        Err(CheckFault::Memory) => return Err(AllocError),
         // Nothing is read of files that can't be taken as a whole.
-        Err(TextFault::Load(_) | TextFault::Fault { .. }) => return Ok(None),
+        Err(CheckFault::Load(_) | CheckFault::Refused(_)) => return Ok(None),
     };
-    let mut statement = Statement::empty(alloc);
-    let mut nearest = Nearest::new(alloc, label);
-    offer_labels(&mut statements, &mut statement, &mut nearest)?;
-    Ok(nearest.found)
+    let nearest = Nearest::new(alloc, label);
+    let mut offers = Offers { nearest };
+    pass_next(alloc, &mut statements, usize::MAX, &mut offers)?;
+    Ok(offers.nearest.found)
 }

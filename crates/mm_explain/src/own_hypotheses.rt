@@ -1,8 +1,8 @@
 //! Where the hypotheses of a theorem stand.
 
-ghost use Rattle.std.specs.Prelude.{◌≡◌, ◌++◌, ◌∷◌, [], List, map, IfOk, OnOk};
+ghost use Rattle.std.specs.Prelude.{◌≡◌, ◌++◌, List, map, IfOk, OnOk};
 ghost use Rattle.mm_text.specs.Files.{plain_file};
-ghost use Rattle.mm_base.specs.Statement.{PlainStatement, plain_statement};
+ghost use Rattle.mm_base.specs.Statement.{PlainStatement};
 ghost use Rattle.mm_base.specs.Token.{plain_token};
 ghost use Rattle.mm_frame.specs.Sentence.{Sentence};
 ghost use Rattle.mm_facts.specs.Explained.{Detail, details_text};
@@ -11,24 +11,31 @@ ghost use Rattle.mm_explain.specs.Mirror.Breaches.{Site};
 ghost use Rattle.mm_explain.specs.Mirror.Standing.{AddsEach, AreEarlier, IsPlaced, firsts_of};
 ghost use Rattle.mm_rules.specs.Verdict.{CanBeRead};
 
-use crate::semantic_error::{read_next, reader};
 use mm_base::{File, Seed, Statement, Token};
 use mm_facts::push_hypothesis_at;
 use mm_frame::{Book, Hypothesis, LabelId};
 use mm_rules::LineCount;
+use mm_text::{Passing, pass_first};
 use std::alloc::{AllocError, Global};
 
-/// Puts the first token of a statement behind the others, if it has a label.
-fn note_first<'a>(firsts: &mut Vec<Token<'a>>, statement: &Statement<'a>) -> Result<(), AllocError>
-    ensures { OnOk result (map plain_token firsts.new.items ≡ map plain_token firsts.old.items
-        ++ firsts_of (plain_statement statement.now ∷ [])) }
-{
-    match statement.label {
-        Some(_) => {
-            firsts.push(statement.first)?;
-            Ok(())
+/// The first tokens of labelled statements.
+#[derive(Drop)]
+struct Firsts<'a> {
+    tokens: Vec<Token<'a>>,
+}
+
+impl<'a> Passing<'a> for Firsts<'a> {
+    ghost has_passed = { λ first now passed.
+        map plain_token now.tokens.items ≡ firsts_of passed };
+
+    fn pass(&mut self, statement: &Statement<'a>) -> Result<(), AllocError> {
+        match statement.label {
+            Some(_) => {
+                self.tokens.push(statement.first)?;
+                Ok(())
+            }
+            None => Ok(()),
         }
-        None => Ok(()),
     }
 }
 
@@ -45,14 +52,11 @@ fn firsts_before<'a>(
     ensures { IfOk result (λ firsts. (site : Site (map plain_file files.now) count)
         → map plain_token firsts.items ≡ firsts_of site.before) }
 {
-    let mut statements = reader(alloc, seed, files)?;
-    let mut statement = Statement::empty(alloc);
-    let mut firsts = Vec::new(alloc);
-    for _ in 0..count {
-        read_next(&mut statements, &mut statement)?;
-        note_first(&mut firsts, &statement)?;
-    }
-    Ok(firsts)
+    let mut firsts = Firsts {
+        tokens: Vec::new(alloc),
+    };
+    pass_first(alloc, seed, files, count, &mut firsts)?;
+    Ok(firsts.tokens)
 }
 
 /// Where each of these hypotheses is stated, and its label. The tokens are the first ones of

@@ -6,12 +6,12 @@ ghost use Rattle.mm_base.specs.Statement.{PlainStatement, plain_statement};
 ghost use Rattle.mm_facts.specs.Explained.{Detail, details_text};
 ghost use Rattle.mm_explain.specs.HypothesisPlaces.{AreScopeFacts};
 ghost use Rattle.mm_explain.specs.Mirror.Breaches.{Site};
-ghost use Rattle.mm_explain.specs.Mirror.Standing.{IsScope};
+ghost use Rattle.mm_explain.specs.Mirror.Standing.{HasScope, IsScope};
 ghost use Rattle.mm_rules.specs.Verdict.{CanBeRead};
 
-use crate::semantic_error::{read_next, reader};
 use mm_base::{File, Kind, Seed, Statement, Token};
 use mm_facts::{push_block_end, push_stated_at};
+use mm_text::{Passing, pass_first};
 use mm_verdict::has_label;
 use std::alloc::{AllocError, Global};
 
@@ -72,6 +72,22 @@ fn pass<'a>(met: Scope<'a>, statement: &Statement<'a>, label: &[u8]) -> Scope<'a
     }
 }
 
+/// What is met of the statement with a label.
+#[derive(Drop)]
+pub(crate) struct Seeking<'l, 'a> {
+    label: &'l [u8],
+    met: Scope<'a>,
+}
+
+impl<'l, 'a> Passing<'a> for Seeking<'l, 'a> {
+    ghost has_passed = { HasScope };
+
+    fn pass(&mut self, statement: &Statement<'a>) -> Result<(), AllocError> {
+        self.met = pass(self.met, statement, self.label);
+        Ok(())
+    }
+}
+
 /// What is met of the statement with the label in so many statements of the files.
 fn scope_before<'a>(
     alloc: Global,
@@ -85,14 +101,12 @@ fn scope_before<'a>(
     ensures { IfOk result (λ met. (site : Site (map plain_file files.now) count)
         → IsScope label.now site.before met) }
 {
-    let mut statements = reader(alloc, seed, files)?;
-    let mut statement = Statement::empty(alloc);
-    let mut met = Scope::Unmet;
-    for _ in 0..count {
-        read_next(&mut statements, &mut statement)?;
-        met = pass(met, &statement, label);
-    }
-    Ok(met)
+    let mut seeking = Seeking {
+        label,
+        met: Scope::Unmet,
+    };
+    pass_first(alloc, seed, files, count, &mut seeking)?;
+    Ok(seeking.met)
 }
 
 /// Where the statement with the label stands, if it is among so many of the files, and where its

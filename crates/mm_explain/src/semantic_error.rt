@@ -17,7 +17,7 @@ use crate::read_to::take;
 use mm_base::{File, Seed, Statement, Token};
 use mm_frame::MeaningRule;
 use mm_rules::{Progress, Stop};
-use mm_text::{Statements, TextFault};
+use mm_text::Statements;
 use mm_verdict::{beginning, make_room};
 use std::alloc::{AllocError, Global};
 
@@ -48,25 +48,8 @@ impl<'a> Breach<'a> {
     }
 }
 
-/// A reader of files that can be read.
-pub(crate) fn reader<'a>(
-    alloc: Global,
-    seed: Seed,
-    files: &'a [File<'a>],
-) -> Result<Statements<'a>, AllocError>
-    requires { CanBeRead (map plain_file files.now) }
-    ensures { IfOk result (IsUnread (map plain_file files.now)) }
-{
-    match Statements::new(alloc, seed, files) {
-        Ok(statements) => Ok(statements),
-        Err(TextFault::Memory) => Err(AllocError),
-        // The files break no rule as a whole, and no token was read.
-        Err(TextFault::Load(_) | TextFault::Fault { .. }) => unreachable!(),
-    }
-}
-
 /// Reads the next statement, which is there.
-pub(crate) fn read_next<'a>(
+fn read_next<'a>(
     statements: &mut Statements<'a>,
     into: &mut Statement<'a>,
 ) -> Result<(), AllocError>
@@ -75,11 +58,11 @@ pub(crate) fn read_next<'a>(
         (TakesNext statements.old true (plain_statement into.new) statements.new) }
     ensures formed { OnOk result (HasForm (plain_statement into.new)) }
 {
-    match statements.read(into) {
-        Ok(true) => Ok(()),
-        Err(TextFault::Memory) => Err(AllocError),
-        // A statement is left, so that neither the end comes next nor a fault of the text.
-        Ok(false) | Err(TextFault::Load(_) | TextFault::Fault { .. }) => unreachable!(),
+    if statements.more(into)? {
+        Ok(())
+    } else {
+        // A statement is left.
+        unreachable!()
     }
 }
 
@@ -186,7 +169,7 @@ pub(crate) fn read_breach<'a>(
     ensures rule { IfOk result (λ breach. breach.rule ≡ rule) }
     ensures before { IfOk result (λ breach. breach.before ≡ before) }
 {
-    let mut statements = reader(alloc, seed, files)?;
+    let mut statements = Statements::of_readable(alloc, seed, files)?;
     let mut statement = Statement::empty(alloc);
     let index = find_breaking(
         alloc,

@@ -10,7 +10,7 @@ ghost use Rattle.mm_text.specs.Files.{plain_file};
 ghost use Rattle.mm_text.specs.Reading.{PlainFault, Reads};
 ghost use Rattle.mm_rules.specs.Answer.{plain_refusal};
 ghost use Rattle.mm_facts.specs.Explained.{Detail, details_text};
-ghost use Rattle.mm_explain.specs.Mirror.Last.{IsBegin, IsTextRefusal, ReadsOn, TellsOrigins};
+ghost use Rattle.mm_explain.specs.Mirror.Last.{IsBegin, IsTextRefusal, TellsOrigins};
 ghost use Rattle.mm_explain.specs.Mirror.Last.{IsOpenBlock, is_of_text};
 ghost use Rattle.mm_rules.specs.declared.rule.Rule.TheVariants.{Text};
 ghost use Rattle.mm_explain.specs.TextFacts.{AreTextFacts, blocks_closed, closing_tokens, last_of};
@@ -21,13 +21,12 @@ ghost use Rattle.mm_explain.specs.TextFacts.{unclosed_in as unclosed_in_of};
 ghost use Rattle.mm_explain.specs.TextFacts.{token_from as token_from_of};
 ghost use Rattle.mm_rules.specs.Verdict.{CanBeRead, text_refusal};
 
-use crate::conflict::pass_block;
+use crate::conflict::OpenBlocks;
 use crate::place_lines::{push_begun, push_last_closed};
-use crate::semantic_error::reader;
 use mm_base::{File, Kind, Seed, Statement, Token};
 use mm_facts::{push_block as push_opening, push_token};
 use mm_rules::{Refusal, Rule, bytes_before, bytes_from, bytes_of};
-use mm_text::{Statements, TextFault, TextRule};
+use mm_text::{Passing, Statements, TextFault, TextRule, pass_all};
 use mm_verdict::is_space;
 use std::alloc::{AllocError, Global};
 
@@ -75,24 +74,6 @@ fn is_of_unclosed(rule: TextRule) -> bool
     matches!(rule, TextRule::X2 | TextRule::X5 | TextRule::X8)
 }
 
-/// Reads the next statement; `false` where the text ends, or its fault comes.
-pub fn next<'a>(
-    statements: &mut Statements<'a>,
-    into: &mut Statement<'a>,
-) -> Result<bool, AllocError>
-    ensures read { IfOk result (λ more.
-        ReadsOn statements.old more (plain_statement into.new) statements.new) }
-    ensures memory { IfErr result (λ fault. statements.new.refused ≡ true) }
-{
-    match statements.read(into) {
-        Ok(more) => Ok(more),
-        Err(TextFault::Fault { .. }) => Ok(false),
-        Err(TextFault::Memory) => Err(AllocError),
-        // A rule of the files as a whole is told before.
-        Err(TextFault::Load(_)) => unreachable!(),
-    }
-}
-
 /// The token of a statement that is a `$}`, else the one before.
 fn closed_by<'a>(statement: &Statement<'a>, before: Option<Token<'a>>) -> Option<Token<'a>>
     ensures { option_map plain_token result
@@ -105,22 +86,20 @@ fn closed_by<'a>(statement: &Statement<'a>, before: Option<Token<'a>>) -> Option
     }
 }
 
-/// Reads what is left up to the fault: the token of the last `$}` in it.
-fn read_closed<'a>(
-    statements: &mut Statements<'a>,
-    into: &mut Statement<'a>,
-) -> Result<Option<Token<'a>>, AllocError>
-    ensures closed { IfOk result (λ closed. option_map plain_token closed
-        ≡ last_of (closing_tokens statements.old.statements)) }
-    ensures none { OnOk result (statements.new.statements ≡ []) }
-    ensures ending { OnOk result (statements.new.ending ≡ statements.old.ending) }
-    ensures memory { IfErr result (λ fault. statements.new.refused ≡ true) }
-{
-    let mut closed = None;
-    while next(statements, into)? {
-        closed = closed_by(into, closed);
+/// The token of the last `$}` of some statements.
+#[derive(Drop)]
+struct LastClosed<'a> {
+    token: Option<Token<'a>>,
+}
+
+impl<'a> Passing<'a> for LastClosed<'a> {
+    ghost has_passed = { λ first now passed.
+        option_map plain_token now.token ≡ last_of (closing_tokens passed) };
+
+    fn pass(&mut self, statement: &Statement<'a>) -> Result<(), AllocError> {
+        self.token = closed_by(statement, self.token);
+        Ok(())
     }
-    Ok(closed)
 }
 
 /// The token of the last `$}` of the files.
@@ -134,18 +113,17 @@ fn last_closed<'a>(
         (ending : Option PlainFault) → Reads (map plain_file files.now) statements ending
         → option_map plain_token closed ≡ last_of (closing_tokens statements)) }
 {
-    let mut statements = reader(alloc, seed, files)?;
-    let mut statement = Statement::empty(alloc);
-    read_closed(&mut statements, &mut statement)
+    let mut closed = LastClosed { token: None };
+    pass_all(alloc, seed, files, &mut closed)?;
+    Ok(closed.token)
 }
 
 /// Reads what is left, up to the end or to the fault.
 fn read_out<'a>(statements: &mut Statements<'a>, into: &mut Statement<'a>) -> Result<(), AllocError>
     ensures none { OnOk result (statements.new.statements ≡ []) }
     ensures ending { OnOk result (statements.new.ending ≡ statements.old.ending) }
-    ensures memory { IfErr result (λ fault. statements.new.refused ≡ true) }
 {
-    while next(statements, into)? {}
+    while statements.more(into)? {}
     Ok(())
 }
 
@@ -194,7 +172,7 @@ fn begin_before<'a>(
     ensures { IfOk result (IsBegin (map plain_file files.now) file at) }
 {
     let cut = files_up_to(alloc, files, file, at)?;
-    let mut statements = reader(alloc, seed, &cut)?;
+    let mut statements = Statements::of_readable(alloc, seed, &cut)?;
     let mut statement = Statement::empty(alloc);
     read_out(&mut statements, &mut statement)?;
     unclosed_in(&mut statements, &mut statement, file)
@@ -212,13 +190,11 @@ fn open_block<'a>(
         (ending : Option PlainFault) → Reads (map plain_file files.now) statements ending
         → IsOpenBlock statements block) }
 {
-    let mut statements = reader(alloc, seed, files)?;
-    let mut statement = Statement::empty(alloc);
-    let mut blocks = Vec::new(alloc);
-    while next(&mut statements, &mut statement)? {
-        pass_block(&mut blocks, &statement)?;
-    }
-    Ok(blocks.pop())
+    let mut open = OpenBlocks {
+        blocks: Vec::new(alloc),
+    };
+    pass_all(alloc, seed, files, &mut open)?;
+    Ok(open.blocks.pop())
 }
 
 /// Where what isn't closed in a file began, if such is there.

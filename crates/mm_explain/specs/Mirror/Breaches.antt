@@ -1,6 +1,7 @@
 -- What the code knows of a statement that breaks a rule of meaning, as it reads the files again up
 -- to it. This file mirrors the code, and is cited by private contracts alone.
-use Rattle.std.specs.Prelude.{◌≡◌, ℕ, List, ◌∷◌, ◌++◌, length, drop, Option}
+use Rattle.std.specs.Prelude.{◌≡◌, ℕ, List, [], ◌∷◌, ◌++◌, length, drop, map, reverse, Option}
+use Rattle.std.specs.Prelude.{option_map}
 use Rattle.std.specs.List.{flat_map}
 use Rattle.mm_base.specs.declared.statement.Kind.{Kind}
 use Rattle.mm_base.specs.declared.statement.Kind.TheVariants.{Opening, Closing}
@@ -9,12 +10,13 @@ use Rattle.mm_text.specs.Files.{PlainFile}
 use Rattle.mm_text.specs.Reading.{PlainFault, Reads}
 use Rattle.mm_text.specs.Remaining.{Remaining}
 use Rattle.mm_base.specs.Statement.{PlainStatement, plain_statement}
-use Rattle.mm_base.specs.Token.{PlainToken}
+use Rattle.mm_base.specs.Token.{plain_token}
 use Rattle.mm_frame.specs.declared.rule.MeaningRule.{MeaningRule}
 use Rattle.mm_frame.specs.Breaking.{BreaksAt}
 use Rattle.mm_frame.specs.Rules.{FirstBroken, AllMeant, IsMeant}
 use Rattle.mm_frame.specs.Sentence.{Sentence, sentence_of}
 use Rattle.mm_explain.specs.declared.semantic_error.Breach.{Breach}
+use Rattle.mm_explain.specs.declared.earlier_declaration.LastMet.{LastMet}
 use Rattle.mm_verdict.specs.Faults.{IsMeaningRefusal}
 use Rattle.mm_explain.specs.MeaningFacts.{last_met, looked_at}
 use Rattle.mm_rules.specs.Verdict.{CanBeRead, PlainRefusal, sentences}
@@ -61,11 +63,13 @@ pub record IsPast (files : List PlainFile) (count : ℕ) (left : Remaining) : Ty
   pub reads : Reads files (earlier ++ left.statements) left.ending
   pub counted : length earlier ≡ count
 
--- It is known where the name was met last, in those that were read, that the rule looks at.
-pub record HasMet (files : List PlainFile) (count : ℕ) (rule : MeaningRule) (name : List ℕ)
-    (last : Option PlainToken) (left : Remaining) : Type 0 where
-  pub past : IsPast files count left
-  pub met : last ≡ last_met name (flat_map (looked_at rule) past.earlier)
+-- It is known where the name was met last, in the statements that were passed, that the rule looks
+-- at.
+pub record HasMet (first now : LastMet) (passed : List PlainStatement) : Type 0 where
+  pub rule : now.rule ≡ first.rule
+  pub name : now.name ≡ first.name
+  pub met : option_map plain_token now.last
+      ≡ last_met first.name.now (flat_map (looked_at first.rule) passed)
 
 -- where a token stands
 abbrev pub position_of : Token → ℕ × ℕ
@@ -77,6 +81,17 @@ abbrev pub positions_after : Kind → (position : ℕ × ℕ) → List (ℕ × �
 positions_after Opening position open_ones = position ∷ open_ones
 positions_after Closing position open_ones = drop 1 open_ones
 positions_after kind position open_ones = open_ones
+
+-- and after these statements
+abbrev pub positions_from : List (ℕ × ℕ) → List PlainStatement → List (ℕ × ℕ)
+positions_from open_ones [] = open_ones
+positions_from open_ones (s ∷ statements) =
+    positions_from (positions_after s.kind (s.first.file, s.first.at) open_ones) statements
+
+-- these are the tokens of the blocks that are open after the statements, the innermost last
+abbrev pub AreOpenBlocks : List PlainStatement → List Token → Type 0
+AreOpenBlocks statements blocks =
+    map position_of (reverse blocks) ≡ positions_from [] statements
 
 -- the breach is that of the statement at its site
 pub record IsBreach (files : List PlainFile) (breach : Breach) : Type 0 where

@@ -1,22 +1,17 @@
 -- What the code knows of the fault that ends the run before it explains it. This file mirrors the
 -- code, and is cited by private contracts alone.
-use Rattle.std.specs.Prelude.{◌≡◌, ℕ, List, [], ◌∷◌, ◌++◌, Bool, true, false, Option, Some, None, ◌⊎◌}
-use Rattle.std.specs.Prelude.{IfSome, map}
-use Rattle.std.specs.Borrow.{Bor}
+use Rattle.std.specs.Prelude.{◌≡◌, ℕ, List, ◌++◌, Bool, true, false, Option, Some, None, ◌⊎◌}
 use Rattle.mm_base.specs.Blocks.{AreClosed, IsInnermost}
-use Rattle.mm_base.specs.Token.{PlainToken}
 use Rattle.mm_base.specs.declared.token.Token.{Token}
 use Rattle.mm_base.specs.Statement.{PlainStatement}
 use Rattle.mm_text.specs.Files.{PlainFile}
 use Rattle.mm_text.specs.Reading.{PlainFault, Reads}
-use Rattle.mm_text.specs.Remaining.{Remaining}
 use Rattle.mm_rules.specs.declared.rule.Rule.{Rule}
 use Rattle.mm_rules.specs.declared.rule.Rule.TheVariants as rules
 use Rattle.mm_rules.specs.Verdict.{PlainRefusal, CanBeRead, text_refusal}
 use Rattle.mm_facts.specs.Explained.{Detail, details_text}
 use Rattle.mm_explain.specs.Mirror.Breaches.{IsStopped}
-use Rattle.mm_explain.specs.Near.{IsLabelOf}
-use Rattle.mm_explain.specs.TextFacts.{last_of, closing_tokens, AreOrigins, files_up_to, unclosed_in}
+use Rattle.mm_explain.specs.TextFacts.{AreOrigins, files_up_to, unclosed_in}
 
 -- this is the refusal for the fault of the text
 pub record IsTextRefusal (files : List PlainFile) (refusal : PlainRefusal) : Type 0 where
@@ -58,36 +53,3 @@ IsOpenBlock statements (Some t) =
     (outer : List PlainStatement) × (opening : PlainStatement)
     × IsInnermost statements outer opening
     × (t.file ≡ opening.first.file) × (t.at ≡ opening.first.at)
-
--- ---- the second reading
-
--- The next statement was read; or none is left, and how the reading ends can still be asked.
-abbrev pub ReadsOn : Remaining → Bool → PlainStatement → Remaining → Type 0
-ReadsOn old true s new =
-    (old.statements ≡ s ∷ new.statements) × (new.ending ≡ old.ending)
-ReadsOn old false s new =
-    (old.statements ≡ []) × (new.statements ≡ []) × (new.ending ≡ old.ending)
-
--- The statements so far and those left are these; this is the token of the last `$}` so far.
-pub record IsReading (all : List PlainStatement) (ending : Option PlainFault) (left : Remaining)
-    (closed : Option PlainToken) : Type 0 where
-  pub so_far : List PlainStatement
-  pub whole : all ≡ so_far ++ left.statements
-  pub same : left.ending ≡ ending
-  pub last : closed ≡ last_of (closing_tokens so_far)
-
--- The statements so far and those left are these, which the reading ends so; these are the labels of
--- those so far.
-pub record IsListing (all : List PlainStatement) (ending : Option PlainFault) (left : Remaining)
-    (labels : List (Option PlainToken)) : Type 0 where
-  pub so_far : List PlainStatement
-  pub whole : all ≡ so_far ++ left.statements
-  pub same : left.ending ≡ ending
-  pub listed : labels ≡ map (λ s. s.label) so_far
-
--- The statements so far and those left are these; what was found is the label of one of them.
-pub record IsSearching (all : List PlainStatement) (left : Remaining)
-    (found : Option (Bor (List ℕ))) : Type 0 where
-  pub so_far : List PlainStatement
-  pub whole : all ≡ so_far ++ left.statements
-  pub labels : IfSome found (λ near. IsLabelOf all near.now)

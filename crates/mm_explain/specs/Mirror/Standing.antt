@@ -5,17 +5,17 @@ use Rattle.std.specs.Prelude.{is_some, Some}
 use Rattle.std.specs.List.{AllZip}
 use Rattle.mm_base.specs.Blocks.{AreBalanced, openings, closings}
 use Rattle.mm_text.specs.Files.{PlainFile}
-use Rattle.mm_text.specs.Remaining.{Remaining}
 use Rattle.mm_base.specs.Statement.{PlainStatement}
 use Rattle.mm_base.specs.Token.{PlainToken, plain_token}
 use Rattle.mm_frame.specs.Numbers.{labelled_sentences}
 use Rattle.mm_frame.specs.Sentence.{Sentence, SomeSentence, sentence_of, IsLabelled}
 use Rattle.mm_step.specs.Steps.{IsProofNumber}
 use Rattle.mm_explain.specs.declared.scope.Scope.{Scope}
+use Rattle.mm_explain.specs.declared.scope.Seeking.{Seeking}
 use Rattle.mm_explain.specs.declared.scope.Scope.TheVariants as scope
 use Rattle.mm_facts.specs.Explained.{Detail, details_text}
 use Rattle.mm_explain.specs.HypothesisPlaces.{ClosesBlock, IsHypothesisFact}
-use Rattle.mm_explain.specs.Mirror.Breaches.{Site, IsPast}
+use Rattle.mm_explain.specs.Mirror.Breaches.{Site}
 use Rattle.mm_rules.specs.Verdict.{CanBeRead, sentences}
 
 -- The `$p` with the number stands in the files behind so many statements, and these are what they
@@ -50,23 +50,16 @@ IsScope label statements (scope.Closed first end) =
     × (closing : PlainStatement) × ClosesBlock statements index closing
     × (plain_token end ≡ closing.first)
 
--- so many statements were read, and that is met in them
-pub record HasScope (files : List PlainFile) (count : ℕ) (label : List ℕ) (met : Scope)
-    (left : Remaining) : Type 0 where
-  pub past : IsPast files count left
-  pub is : IsScope label past.earlier met
+-- that is met in the statements that were passed
+pub record HasScope (first now : Seeking) (passed : List PlainStatement) : Type 0 where
+  pub label : now.label ≡ first.label
+  pub is : IsScope first.label.now passed now.met
 
 -- ---- the first tokens of labelled statements
 
 -- those of these statements, in order
 abbrev pub firsts_of : List PlainStatement → List PlainToken
 firsts_of statements = map (λ s. s.first) (filter (λ s. is_some s.label) statements)
-
--- So many statements were read, and these are the first tokens of the labelled ones among them.
-pub record HasFirsts (files : List PlainFile) (count : ℕ) (firsts : List PlainToken)
-    (left : Remaining) : Type 0 where
-  pub past : IsPast files count left
-  pub are : firsts ≡ firsts_of past.earlier
 
 -- These are the labelled statements with the numbers, which stand among those before a last one.
 pub record AreEarlier (statements : List Sentence) (before : List PlainStatement)

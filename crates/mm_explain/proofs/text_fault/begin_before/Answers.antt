@@ -7,8 +7,8 @@ use Rattle.mm_explain.specs.TextFacts.{unclosed_in}
 use Rattle.mm_explain.proofs.CutFiles.{readable_up_to}
 use Rattle.mm_explain.proofs.text_fault.begin_before.Goals as goal
 
-pub reader-requires : goal.reader-requires
-reader-requires c =
+pub of_readable-requires : goal.of_readable-requires
+of_readable-requires c =
     rw (c.deref.ensures.value, c.in_ok-cut.ensures)
     (readable_up_to (map plain_file c.args.files.now) c.args.file c.args.at c.requires)
 
