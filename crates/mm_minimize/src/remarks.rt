@@ -16,7 +16,6 @@ ghost use Rattle.mm_minimize.specs.Mirror.Shortening.{ArePassed, IsPassed};
 use mm_base::{File, Seed, Statement};
 use mm_rules::AskFault;
 use mm_text::{Statements, headings_between, mathbox_at, says_before};
-use mm_verdict::{read_on, reader};
 use std::alloc::{AllocError, Global};
 
 /// Marks an assertion that no further proof should use.
@@ -111,7 +110,7 @@ fn read_remarks<'a>(
         statements.old.statements remarks.new.items) }
     ensures memory { IfErr result (λ fault. fault ≡ Memory) }
 {
-    while read_on(statements, into)? {
+    while statements.more(into)? {
         if into.label.is_some() {
             remarks.push(remark_of(files, into, passed))?;
         }
@@ -128,7 +127,7 @@ pub(crate) fn remarks_of(alloc: Global, seed: Seed, files: &[File]) -> Result<Ve
     ensures memory { IfErr result (λ fault. fault ≡ Memory) }
 {
     let mut passed = beginnings(alloc, files.len())?;
-    let mut statements = reader(alloc, seed, files)?;
+    let mut statements = Statements::of_readable(alloc, seed, files)?;
     let mut statement = Statement::empty(alloc);
     let mut remarks = Vec::new(alloc);
     let read = read_remarks(

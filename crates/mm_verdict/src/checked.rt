@@ -5,7 +5,7 @@ ghost use Rattle.std.specs.Prelude.{true, false, Some, None, IsTrue, IfOk, IfErr
 ghost use Rattle.mm_rules.specs.declared.ask.AskFault.TheVariants.{Memory};
 ghost use Rattle.std.specs.List.{AllByRecursion};
 
-use crate::reread::{reader, reread};
+use crate::reread::reread;
 use crate::theorem::{Theorem, read_theorem};
 use mm_base::{File, Statement};
 use mm_frame::{Book, Found, LabelId, LabelKind};
@@ -211,7 +211,8 @@ impl<'a> Checked<'a> {
         ensures memory { IfErr result (λ fault. fault ≡ Memory) }
     {
         let files = self.files;
-        reader(alloc, self.book.seed(), files)
+        let statements = Statements::of_readable(alloc, self.book.seed(), files)?;
+        Ok(statements)
     }
 
     /// Whether the statement with a number is a `$p` with a complete proof.

@@ -23,7 +23,7 @@ pub use reply::{
     push_labels, push_refusal, push_refusals, refusal_status, refused_text, text_status,
     verdict_reply,
 };
-pub use reread::{has_label, proof_of, read_on, reader};
+pub use reread::{has_label, proof_of};
 pub use text::{handed_tokens, is_space, placed_tokens, proof_tokens};
 pub use theorem::{Theorem, read_theorem};
 pub use theorems::Rereading;

@@ -1,21 +1,19 @@
 //! Statements of checked files, read again: `check` keeps no proof.
 
-ghost use Rattle.std.specs.Prelude.{◌≡◌, ◌↔◌, List, map, true, None, Ok, OnOk, IfOk, IfErr, IsTrue};
+ghost use Rattle.std.specs.Prelude.{◌≡◌, ◌↔◌, List, map, None, OnOk, IfOk, IfErr, IsTrue};
 ghost use Rattle.mm_base.specs.Statement.{PlainStatement, plain_statement, HasForm};
 ghost use Rattle.mm_base.specs.Token.{plain_token};
 ghost use Rattle.mm_text.specs.Files.{plain_file};
 ghost use Rattle.mm_text.specs.Reading.{Reads};
-ghost use Rattle.mm_text.specs.Remaining.{IsUnread};
 ghost use Rattle.mm_code.specs.Words.{texts_of};
 ghost use Rattle.mm_frame.specs.Sentence.{sentence_in, IsLabelled};
 ghost use Rattle.mm_rules.specs.declared.ask.AskFault.TheVariants.{Memory};
 ghost use Rattle.mm_rules.specs.Verdict.{CanBeRead, proof_of};
-ghost use Rattle.mm_verdict.specs.Mirror.Judged.{TakesNext};
 ghost use Rattle.mm_rules.specs.Shown.{Stands};
 
 use mm_base::{File, Seed, Statement, Token};
 use mm_rules::AskFault;
-use mm_text::{Statements, TextFault};
+use mm_text::Statements;
 use std::alloc::{AllocError, Global};
 
 /// Whether a statement has a label.
@@ -25,43 +23,6 @@ pub fn has_label(statement: &Statement, label: &[u8]) -> bool
     match &statement.label {
         Some(own) => own.text == label,
         None => false,
-    }
-}
-
-/// A reader of files that can be read.
-pub fn reader<'a>(
-    alloc: Global,
-    seed: Seed,
-    files: &'a [File<'a>],
-) -> Result<Statements<'a>, AskFault>
-    requires { CanBeRead (map plain_file files.now) }
-    ensures unread { IfOk result (IsUnread (map plain_file files.now)) }
-    ensures memory { IfErr result (λ fault. fault ≡ Memory) }
-{
-    match Statements::new(alloc, seed, files) {
-        Ok(statements) => Ok(statements),
-        Err(TextFault::Memory) => Err(AskFault::Memory),
-        // The files break no rule as a whole, and no token was read.
-        Err(TextFault::Load(_) | TextFault::Fault { .. }) => unreachable!(),
-    }
-}
-
-/// Reads the next statement of a text without a fault; `false` where there is none.
-pub fn read_on<'a>(
-    statements: &mut Statements<'a>,
-    into: &mut Statement<'a>,
-) -> Result<bool, AskFault>
-    requires { statements.old.ending ≡ None }
-    ensures taken { IfOk result (λ more.
-        TakesNext statements.old more (plain_statement into.new) statements.new) }
-    ensures formed { result ≡ Ok true → HasForm (plain_statement into.new) }
-    ensures memory { IfErr result (λ fault. fault ≡ Memory) }
-{
-    match statements.read(into) {
-        Ok(more) => Ok(more),
-        Err(TextFault::Memory) => Err(AskFault::Memory),
-        // The text has no fault: `check` read it to its end.
-        Err(TextFault::Load(_) | TextFault::Fault { .. }) => unreachable!(),
     }
 }
 
@@ -78,7 +39,7 @@ fn seek<'a>(
     ensures formed { OnOk result (HasForm (plain_statement into.new)) }
     ensures memory { IfErr result (λ fault. fault ≡ Memory) }
 {
-    while read_on(statements, into)? {
+    while statements.more(into)? {
         if has_label(into, label) {
             return Ok(());
         }
@@ -103,7 +64,7 @@ pub fn reread<'a>(
     ensures formed { IfOk result (λ statement. HasForm (plain_statement statement)) }
     ensures memory { IfErr result (λ fault. fault ≡ Memory) }
 {
-    let mut statements = reader(alloc, seed, files)?;
+    let mut statements = Statements::of_readable(alloc, seed, files)?;
     let mut statement = Statement::empty(alloc);
     let found = seek(&mut statements, label, &mut statement);
     drop(statements);

@@ -5,7 +5,6 @@ ghost use Rattle.mm_base.specs.Statement.{PlainStatement};
 ghost use Rattle.mm_rules.specs.declared.ask.AskFault.TheVariants.{Memory};
 
 use crate::checked::Checked;
-use crate::reread::read_on;
 use crate::watch::SoFar;
 use mm_base::Statement;
 use mm_frame::LabelId;
@@ -50,7 +49,7 @@ impl<'a> Rereading<'a> {
             → GoesTo checked.now.files taken found self.new) }
         ensures memory { IfErr result (λ fault. fault ≡ Memory) }
     {
-        while read_on(&mut self.statements, &mut self.statement)? {
+        while self.statements.more(&mut self.statement)? {
             if self.statement.label.is_some() {
                 let id = LabelId(self.labelled);
                 self.labelled += 1;

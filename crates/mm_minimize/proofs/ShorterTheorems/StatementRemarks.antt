@@ -17,7 +17,7 @@ use Rattle.mm_text.proofs.Reader.WholeReadings.{readings_are_formed_in_place}
 use Rattle.std.proofs.lemmas.Slice.{between_is}
 use Rattle.mm_text.specs.Files.{PlainFile, plain_file}
 use Rattle.mm_text.specs.Reading.{Reads, IsInPlace}
-use Rattle.mm_text.specs.Remaining.{Remaining}
+use Rattle.mm_text.specs.Remaining.{ReadsOn, Remaining}
 use Rattle.mm_text.specs.Remarks.{headings, is_heading, mathbox_at, IsSaidBefore}
 use Rattle.mm_base.proofs.Lists.{all_at, get_before, get_parted, get_pushed, get_set_cases}
 use Rattle.mm_base.proofs.Lists.{one_there, pushed_cases}
@@ -32,7 +32,6 @@ use Rattle.mm_rules.specs.Conclusion.{Conclusion}
 use Rattle.mm_rules.specs.Rests.{IsAt}
 use Rattle.mm_render.specs.Shorter.{home_bytes, proof_mark, usage_mark}
 use Rattle.mm_rules.specs.Verdict.{sentences}
-use Rattle.mm_verdict.specs.Mirror.Judged.{TakesNext}
 use Rattle.mm_rules.specs.Mirror.Marks.{IsKeptFrom}
 use Rattle.mm_minimize.specs.Mirror.Shortening.{AreRemarks, AreRemarksOf, IsRemarkOf}
 use Rattle.mm_minimize.specs.Mirror.Shortening.{ArePassed, IsPassed}
@@ -285,7 +284,7 @@ read_none files left passed remarks faultless places none = record {
 -- where the next statement begins
 pub next_begins : (files : List PlainFile) (all : List PlainStatement) (left new : Remaining)
     (passed : List Passed) (remarks : List Remark) (s : PlainStatement) → Reads files all None
-    → IsReadTo files all left passed remarks → TakesNext left true s new
+    → IsReadTo files all left passed remarks → ReadsOn left true s new
     → (file : PlainFile) × (slice_get files s.first.file ≡ Some file)
     × (s.first.at < length file.bytes)
 next_begins files all left new passed remarks s reads h taken =
@@ -297,7 +296,7 @@ next_begins files all left new passed remarks s reads h taken =
 
 pub read_more : (files : List PlainFile) (all : List PlainStatement) (left new : Remaining)
     (passed passed' : List Passed) (remarks remarks' : List Remark) (s : PlainStatement) (r : Remark)
-    → IsReadTo files all left passed remarks → TakesNext left true s new
+    → IsReadTo files all left passed remarks → ReadsOn left true s new
     → is_some (sentence_of s).label ≡ true → IsRemarkOf files s r → ArePassed files passed'
     → remarks' ≡ remarks ++ r ∷ [] → IsReadTo files all new passed' remarks'
 read_more files all left new passed passed' remarks remarks' s r h taken labelled said places is = record {
@@ -311,7 +310,7 @@ read_more files all left new passed passed' remarks remarks' s r h taken labelle
 
 pub read_over : (files : List PlainFile) (all : List PlainStatement) (left new : Remaining)
     (passed : List Passed) (remarks : List Remark) (s : PlainStatement)
-    → IsReadTo files all left passed remarks → TakesNext left true s new
+    → IsReadTo files all left passed remarks → ReadsOn left true s new
     → is_some (sentence_of s).label ≡ false → IsReadTo files all new passed remarks
 read_over files all left new passed remarks s h taken unlabelled = record {
   faultless = ap (λ (r : Remaining). r.ending) taken.1 ∙ h.faultless;
@@ -324,7 +323,7 @@ read_over files all left new passed remarks s h taken unlabelled = record {
 
 pub read_all : (files : List PlainFile) (all : List PlainStatement) (left new : Remaining)
     (passed : List Passed) (remarks : List Remark) (s : PlainStatement)
-    → IsReadTo files all left passed remarks → TakesNext left false s new
+    → IsReadTo files all left passed remarks → ReadsOn left false s new
     → AreRemarksOf files all remarks
 read_all files all left new passed remarks s h taken =
     subst (λ (ss : List PlainStatement). AreRemarksOf files ss remarks)

@@ -15,7 +15,7 @@ use Rattle.mm_base.specs.Statement.{PlainStatement, HasForm, HasLabel, plain_sta
 use Rattle.mm_text.specs.Files.{PlainFile}
 use Rattle.mm_base.specs.MostBytes.{most_bytes}
 use Rattle.mm_text.specs.Reading.{Reads}
-use Rattle.mm_text.specs.Remaining.{Remaining, IsUnread}
+use Rattle.mm_text.specs.Remaining.{Remaining, IsUnread, ReadsOn}
 use Rattle.mm_base.proofs.Lists.{contains_from_at, get_parted}
 use Rattle.mm_frame.specs.declared.number.LabelId.{LabelId}
 use Rattle.mm_frame.specs.Numbers.{labelled_sentences}
@@ -28,7 +28,6 @@ use Rattle.mm_verdict.specs.declared.theorems.Rereading.{Rereading}
 use Rattle.mm_rules.specs.Conclusion.{Conclusion}
 use Rattle.mm_rules.specs.Rests.{IsAt, IsNumberWhere}
 use Rattle.mm_rules.specs.Verdict.{is_proof, proof_of, sentences}
-use Rattle.mm_verdict.specs.Mirror.Judged.{TakesNext}
 use Rattle.mm_verdict.specs.Mirror.Rereading.{AreNoTheorems, GoesTo, HasPassed, IsAtTheorem}
 use Rattle.mm_verdict.specs.Mirror.Rereading.{IsReadTo, IsTheoremIn, label_count}
 use Rattle.mm_verdict.proofs.Questions.FewLabels.{few_labels}
@@ -142,7 +141,7 @@ passed_none files taken r read = record {
 
 -- the next statement was read
 module _ (files : List PlainFile) (before : List PlainStatement) (old new : Rereading)
-    (taken : TakesNext old.statements true (plain_statement new.statement) new.statements)
+    (taken : ReadsOn old.statements true (plain_statement new.statement) new.statements)
     (read : IsReadTo files before old) where
   abbrev pub s : PlainStatement
   s = plain_statement new.statement
@@ -197,7 +196,7 @@ module _ (files : List PlainFile) (before : List PlainStatement) (old new : Rere
 
 -- the same, after what was passed
 module _ (files : List PlainFile) (taken : List PlainStatement) (old new : Rereading)
-    (next : TakesNext old.statements true (plain_statement new.statement) new.statements)
+    (next : ReadsOn old.statements true (plain_statement new.statement) new.statements)
     (passed : HasPassed files taken old) where
   abbrev pub before : List PlainStatement
   before = taken ++ passed.between

@@ -13,14 +13,14 @@ use Rattle.mm_minimize.proofs.remarks.remarks_of.Goals as goal
 pub read_remarks-read-requires-clause-faultless : goal.read_remarks-read-requires-clause-faultless
 read_remarks-read-requires-clause-faultless c =
     (same_reading (map plain_file c.args.files.now) c.in_ok-statements.statements.statements c.requires.reads.0 c.in_ok-statements.statements.ending None
-    c.in_ok-statements.ensures.unread.reads c.requires.reads.1).1
+    c.in_ok-statements.ensures.reads c.requires.reads.1).1
 
 pub read_remarks-read-requires-clause-reads : goal.read_remarks-read-requires-clause-reads
 read_remarks-read-requires-clause-reads c =
     let faultless = (same_reading (map plain_file c.args.files.now) c.in_ok-statements.statements.statements c.requires.reads.0 c.in_ok-statements.statements.ending None
-    c.in_ok-statements.ensures.unread.reads c.requires.reads.1).1 in
+    c.in_ok-statements.ensures.reads c.requires.reads.1).1 in
     subst (λ (e : Option PlainFault). Reads (map plain_file c.args.files.now) c.in_ok-statements.statements.statements e)
-    faultless c.in_ok-statements.ensures.unread.reads
+    faultless c.in_ok-statements.ensures.reads
 
 pub read_remarks-read-requires-clause-passed : goal.read_remarks-read-requires-clause-passed
 read_remarks-read-requires-clause-passed c =
@@ -31,6 +31,6 @@ read_remarks-read-requires-clause-passed c =
 pub returns-in-Ok-clause-remarks : goal.returns-in-Ok-clause-remarks
 returns-in-Ok-clause-remarks c = λ statements reads.
     let same = same_reading (map plain_file c.args.files.now) c.in_ok-statements.statements.statements statements c.in_ok-statements.statements.ending None
-    c.in_ok-statements.ensures.unread.reads reads in
+    c.in_ok-statements.ensures.reads reads in
     subst (λ (ss : List PlainStatement). AreRemarksOf (map plain_file c.args.files.now) ss c.read_remarks-read.new.remarks.items)
     same.0 c.in-Ok.ensures.remarks

@@ -1,6 +1,5 @@
 -- The files are those that were judged, which have no fault.
 use Rattle.std.proofs.Common.{◌≡◌, List, map, ap, subst}
-use Rattle.std.proofs.lemmas.Result.{IfOk-weaker}
 use Rattle.mm_text.specs.Files.{PlainFile, plain_file}
 use Rattle.mm_text.specs.Remaining.{IsUnread}
 use Rattle.mm_rules.specs.Conclusion.{Conclusion}
@@ -14,10 +13,9 @@ returns-clause-faultless c =
     let well = subst KeptWell c.self.view_is c.self.invariant in
     let files : map plain_file c.self.inside.files.now ≡ now.files =
     ap (λ (v : Conclusion). v.files) c.self.view_is in
-    IfOk-weaker c.reader.result _ _
-    (λ statements unread. unread_faultless now statements well
-    (subst (λ (fs : List PlainFile). IsUnread fs statements) files unread))
-    c.reader.ensures.unread
+    unread_faultless now c.in_ok-statements.statements well
+    (subst (λ (fs : List PlainFile). IsUnread fs c.in_ok-statements.statements) files
+    c.in_ok-statements.ensures)
 
 pub returns-clause-few : goal.returns-clause-few
 returns-clause-few c =
@@ -25,7 +23,6 @@ returns-clause-few c =
     let well = subst KeptWell c.self.view_is c.self.invariant in
     let files : map plain_file c.self.inside.files.now ≡ now.files =
     ap (λ (v : Conclusion). v.files) c.self.view_is in
-    IfOk-weaker c.reader.result _ _
-    (λ statements unread. labels_few now statements well
-    (subst (λ (fs : List PlainFile). IsUnread fs statements) files unread))
-    c.reader.ensures.unread
+    labels_few now c.in_ok-statements.statements well
+    (subst (λ (fs : List PlainFile). IsUnread fs c.in_ok-statements.statements) files
+    c.in_ok-statements.ensures)
