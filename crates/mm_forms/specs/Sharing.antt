@@ -9,6 +9,7 @@ use Rattle.mm_frame.specs.Sentence.{Sentence}
 use Rattle.mm_frame.specs.Frame.{AreMandatory}
 use Rattle.mm_step.specs.Tree.{Trees, none, spelling}
 use Rattle.mm_step.specs.Moves.{Move, again, Makes}
+use Rattle.mm_proof.specs.Sharing.{steps_of}
 use Rattle.mm_proof.specs.Tokens.{Says}
 use Rattle.mm_forms.specs.BigSubtrees.{IsBig}
 use Rattle.mm_forms.specs.Visits.{Visit, makes, keeps, visits}
@@ -76,3 +77,9 @@ pub record IsSharedProof (P : Trees → Type 0) (before : List Sentence) (s : Se
 abbrev pub IsPacked : (before : List Sentence) (s : Sentence) (trees : Trees)
     (listed : List (List ℕ)) (codes : List Code) → Type 0
 IsPacked before s trees listed codes = IsSharedProof IsBig before s trees listed codes
+
+-- so many steps are in the fully shared proof of the tree
+abbrev pub HasSteps : (before : List Sentence) → Sentence → Trees → ℕ → Type 0
+HasSteps before s t count =
+    (listed : List (List ℕ)) × (codes : List Code) × IsPacked before s t listed codes
+    × (count ≡ steps_of codes)

@@ -19,4 +19,4 @@ mod words;
 pub use expansion::expand;
 pub use packing::{Packed, compress};
 pub use sameness::same;
-pub use small::{LabelUse, compress_small};
+pub use small::{LabelUse, SmallProof, compress_small};

@@ -13,6 +13,7 @@ ghost use Rattle.mm_forms.specs.BigSubtrees.{IsBig};
 ghost use Rattle.mm_forms.specs.Packing.{OfTree, ArePacked};
 ghost use Rattle.mm_forms.specs.ChosenSharing.{AreChosen};
 ghost use Rattle.mm_step.specs.Steps.{AreSteps};
+ghost use Rattle.mm_proof.specs.Sharing.{steps_of};
 ghost use Rattle.mm_proof.specs.Verified.{OfMoves};
 ghost use Rattle.mm_step.specs.Plain.{ids_in, label_ids};
 ghost use Rattle.mm_forms.specs.Mirror.CodeSharing.{AreFirstNumbers, labels_made, IsEncoded};
@@ -49,6 +50,8 @@ pub(crate) struct BothPacked {
     pub(crate) full: Packed,
     /// The one that shares what is worth a tag alone.
     pub(crate) chosen: Packed,
+    /// How many steps the fully shared one has.
+    pub(crate) steps: usize,
 }
 
 // The trees that the steps repeat.
@@ -284,6 +287,7 @@ fn pack_both(
         shared.now.steps.items (ids_in both.full.labels.items) both.full.codes.items) }
     ensures chosen { IfOk result (λ both. ChoosesPacked shared.now (label_ids hypotheses.now)
         (ids_in both.chosen.labels.items) both.chosen.codes.items) }
+    ensures steps { IfOk result (λ both. both.steps ≡ steps_of both.full.codes.items) }
     ensures spelled { IfOk result (λ both. All HasSpelling both.full.codes.items
         × All HasSpelling both.chosen.codes.items) }
     ensures exact { IfOk result (λ both. All IsExact both.full.codes.items
@@ -293,7 +297,11 @@ fn pack_both(
 {
     let full = pack(alloc, seed, hypotheses, &shared.steps)?;
     match pack_chosen(alloc, seed, hypotheses, shared) {
-        Ok(chosen) => Ok(BothPacked { full, chosen }),
+        Ok(chosen) => Ok(BothPacked {
+            full,
+            chosen,
+            steps: shared.steps.len(),
+        }),
         Err(fault) => {
             drop(full);
             Err(fault)
@@ -360,6 +368,7 @@ pub(crate) fn compress_both(
     ensures chosen { IfOk result (λ both. OfMoves book.now.statements id.0 steps.now.moves
         (λ index s moves. OfTree (take index book.now.statements) moves (λ t. AreChosen
         book.now.statements index s t both.chosen.labels.items both.chosen.codes.items))) }
+    ensures steps { IfOk result (λ both. both.steps ≡ steps_of both.full.codes.items) }
     ensures spelled { IfOk result (λ both. All HasSpelling both.full.codes.items
         × All HasSpelling both.chosen.codes.items) }
     ensures exact { IfOk result (λ both. All IsExact both.full.codes.items

@@ -11,6 +11,7 @@ ghost use Rattle.mm_code.specs.Letters.{HasSpelling, IsExact, largest};
 ghost use Rattle.mm_code.specs.LetterCount.{letter_count as letters_in};
 ghost use Rattle.mm_forms.specs.OneTree.{MakeOneTree};
 ghost use Rattle.mm_forms.specs.Packing.{OfTree};
+ghost use Rattle.mm_forms.specs.Sharing.{HasSteps};
 ghost use Rattle.mm_forms.specs.SmallProofs.{AreSmall};
 ghost use Rattle.mm_step.specs.Steps.{AreSteps};
 ghost use Rattle.mm_proof.specs.Verified.{OfMoves};
@@ -193,6 +194,15 @@ fn fewer_letters(full: Packed, chosen: Packed) -> Packed
     }
 }
 
+/// A small proof.
+#[derive(Drop)]
+pub struct SmallProof {
+    /// Its listed labels and its codes.
+    pub packed: Packed,
+    /// How many steps the fully shared proof of the same tree has.
+    pub steps: usize,
+}
+
 /// The small proof of the tree that the steps of the `$p` with this number make. Its labels are
 /// listed by how often they are used. It tags each subtree of three or more nodes where it is used
 /// again, or each of two or more, whichever has fewer letters. The steps are handed in where they
@@ -207,7 +217,7 @@ pub fn compress_small(
     book: &Book,
     id: LabelId,
     steps: &Steps,
-) -> Result<Packed, AllocError>
+) -> Result<SmallProof, AllocError>
     requires steps { AreSteps book.now.statements id.0 steps.now.moves }
     requires whole { steps.now.prefix ≡ false }
     requires makes { OfMoves book.now.statements id.0 steps.now.moves
@@ -215,15 +225,25 @@ pub fn compress_small(
     // The labels and the codes are the small proof of the tree that the steps make.
     ensures small { IfOk result (λ small. OfMoves book.now.statements id.0 steps.now.moves
         (λ index s moves. OfTree (take index book.now.statements) moves
-        (λ t. AreSmall book.now.statements index s t small.labels.items small.codes.items))) }
+        (λ t. AreSmall book.now.statements index s t small.packed.labels.items
+        small.packed.codes.items))) }
+
+    // The steps are those of the fully shared proof of this tree.
+    ensures steps { IfOk result (λ small. OfMoves book.now.statements id.0 steps.now.moves
+        (λ index s moves. OfTree (take index book.now.statements) moves
+        (λ t. HasSteps (take index book.now.statements) s t small.steps))) }
 
     // Each code can be written in letters, and each number stands for itself alone.
-    ensures spelled { IfOk result (λ small. All HasSpelling small.codes.items) }
-    ensures exact { IfOk result (λ small. All IsExact small.codes.items) }
+    ensures spelled { IfOk result (λ small. All HasSpelling small.packed.codes.items) }
+    ensures exact { IfOk result (λ small. All IsExact small.packed.codes.items) }
 {
     let own = book.frame(id).hypotheses().len();
     let both = compress_both(alloc, book, id, steps)?;
+    let steps = both.steps;
     let full = list_by_use(alloc, own, both.full)?;
     let chosen = list_by_use(alloc, own, both.chosen)?;
-    Ok(fewer_letters(full, chosen))
+    Ok(SmallProof {
+        packed: fewer_letters(full, chosen),
+        steps,
+    })
 }

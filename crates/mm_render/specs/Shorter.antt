@@ -7,13 +7,11 @@ use Rattle.mm_base.specs.declared.statement.Kind.TheVariants.{Axiom}
 use Rattle.mm_base.specs.Statement.{PlainStatement}
 use Rattle.mm_text.specs.Files.{PlainFile}
 use Rattle.mm_text.specs.Remarks.{IsSaidBefore, mathbox_at}
-use Rattle.mm_code.specs.declared.code.Code.{Code}
 use Rattle.mm_frame.specs.Sentence.{Sentence, sentence_of}
 use Rattle.mm_step.specs.declared.profile.Profile.{Profile}
 use Rattle.mm_step.specs.Profiles.{limit_of}
 use Rattle.mm_step.specs.Proof.{IsWithin}
-use Rattle.mm_forms.specs.Sharing.{IsPacked}
-use Rattle.mm_proof.specs.Sharing.{steps_of}
+use Rattle.mm_forms.specs.Sharing.{HasSteps}
 use Rattle.mm_step.specs.Tree.{Trees, none, tree, DeriveAll}
 use Rattle.mm_proof.specs.Used.{IsUsedNumber}
 use Rattle.mm_render.specs.Forms.{HasProofTree, IsSmallOf, IsSmallText}
@@ -57,12 +55,6 @@ pub record MayUse (files : List PlainFile) (theorem assertion : PlainStatement) 
 abbrev pub DerivesUnder : Profile → (before : List Sentence) → Sentence → Trees → Type 0
 DerivesUnder profile before s t =
     DeriveAll (IsWithin (limit_of profile)) before t (s.symbols ∷ [])
-
--- so many steps are in the fully shared proof of the tree
-abbrev pub HasSteps : (before : List Sentence) → Sentence → Trees → ℕ → Type 0
-HasSteps before s t count =
-    (listed : List (List ℕ)) × (codes : List Code) × IsPacked before s t listed codes
-    × (count ≡ steps_of codes)
 
 -- the number is that of a `$a`, or of a `$p` with an incomplete proof
 abbrev pub IsUnfounded : List PlainStatement → ℕ → Type 0

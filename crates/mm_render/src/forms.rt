@@ -8,6 +8,7 @@ ghost use Rattle.mm_code.specs.SmallLayout.{most_indent};
 ghost use Rattle.mm_step.specs.Tree.{spelling};
 ghost use Rattle.mm_forms.specs.Spelled.{AreLabelsOf, OfSpelling};
 ghost use Rattle.mm_forms.specs.Packing.{OfTree};
+ghost use Rattle.mm_forms.specs.Sharing.{HasSteps};
 ghost use Rattle.mm_step.specs.Steps.{AreSteps};
 ghost use Rattle.mm_proof.specs.Verified.{OfMoves};
 ghost use Rattle.mm_rules.specs.declared.ask.AskFault.TheVariants.{Rule, Memory};
@@ -20,7 +21,6 @@ ghost use Rattle.mm_verdict.specs.Mirror.Theorems.{AreProvedSteps};
 ghost use Rattle.mm_render.specs.Mirror.Shortening.{IsOwnProof};
 ghost use Rattle.mm_render.specs.Mirror.Rewriting.{IsSpanTextOf, IsTextFault};
 
-use crate::shorter::step_count;
 use mm_code::{MOST_INDENT, lay_out_compressed, lay_out_normal, lay_out_small, write_codes};
 use mm_forms::{compress, compress_small, expand};
 use mm_frame::{Book, LabelId};
@@ -116,6 +116,8 @@ struct SmallProof<'a> {
     names: Vec<&'a [u8]>,
     /// The letters that spell its codes.
     letters: Vec<u8>,
+    /// How many steps the fully shared proof of the same tree has.
+    steps: usize,
 }
 
 /// The small proof of a theorem.
@@ -127,17 +129,25 @@ fn small_proof<'a>(
     requires steps { AreSteps book.now.statements theorem.now.id.0 theorem.now.steps.moves }
     requires proved { AreProvedSteps book.now.statements theorem.now.id.0 theorem.now.steps }
     requires whole { theorem.now.steps.prefix ≡ false }
-    ensures { IfOk result (λ proof.
+    ensures proof { IfOk result (λ proof.
         OfMoves book.now.statements theorem.now.id.0 theorem.now.steps.moves
         (λ index s moves. OfTree (take index book.now.statements) moves
         (λ trees. HasSmallProof (take index book.now.statements) s trees
         (λ listed letters. (texts proof.names.items ≡ listed)
         × (proof.letters.items ≡ letters))))) }
+    ensures steps { IfOk result (λ proof.
+        OfMoves book.now.statements theorem.now.id.0 theorem.now.steps.moves
+        (λ index s moves. OfTree (take index book.now.statements) moves
+        (λ trees. HasSteps (take index book.now.statements) s trees proof.steps))) }
 {
     let small = compress_small(alloc, book, theorem.id, &theorem.steps)?;
-    let names = names_of(alloc, book, &small.labels)?;
-    let letters = write_codes(alloc, &small.codes)?;
-    Ok(SmallProof { names, letters })
+    let names = names_of(alloc, book, &small.packed.labels)?;
+    let letters = write_codes(alloc, &small.packed.codes)?;
+    Ok(SmallProof {
+        names,
+        letters,
+        steps: small.steps,
+    })
 }
 
 /// The small proof of a theorem, and its size.
@@ -161,11 +171,10 @@ pub fn own_proof(alloc: Global, book: &Book, theorem: &Theorem) -> Result<OwnPro
 {
     let small = small_proof(alloc, book, theorem)?;
     let text = lay_out_compressed(alloc, &small.names, &small.letters)?;
-    let steps = step_count(alloc, book, theorem)?;
     Ok(OwnProof {
         text,
         letters: small.letters.len(),
-        steps,
+        steps: small.steps,
     })
 }
 

@@ -12,6 +12,7 @@ use Rattle.std.proofs.lemmas.List.Elements.{Contains-push, Contains-push_cases}
 use Rattle.std.proofs.lemmas.List.Elements.{Contains-append_left}
 use Rattle.std.proofs.lemmas.Slice.Zip.{AllZip-long}
 use Rattle.mm_base.proofs.Lists.{zip_push, zip_left, zip_take, zip_weaker}
+use Rattle.mm_frame.proofs.Blocks.NumberedBlocks.{count_append}
 use Rattle.mm_frame.specs.Sentence.{Sentence}
 use Rattle.mm_frame.specs.Rules.{AllMeant}
 use Rattle.mm_forms.specs.declared.subtrees.Subtree.{Subtree}
@@ -27,6 +28,7 @@ use Rattle.mm_forms.specs.Mirror.CodeSharing.{SharingSteps, ShareSteps, AreMadeB
 use Rattle.mm_proof.specs.Mirror.CodeSharing.{AddsNew}
 use Rattle.mm_forms.specs.Mirror.CodeSharing.{labels_made, AreFirstNumbers, IsEncoded}
 use Rattle.mm_forms.specs.Mirror.CodeSharing.{AreEncoded, AreStepsPacked}
+use Rattle.mm_proof.specs.Sharing.{is_number, steps_of}
 use Rattle.mm_proof.specs.Mirror.SharedSteps.{In}
 use Rattle.mm_proof.proofs.Members.{in_contains, contains_in, get_in, in_left, in_right}
 use Rattle.mm_proof.proofs.Members.{in_apart, in_push, Once}
@@ -442,6 +444,23 @@ encoded_many labels repeated kept (one ∷ steps) codes kept' a =
     let here = encoded_two labels repeated kept one a.0 a.1 a.4 in
     let later = encoded_many labels repeated a.1 steps a.2 kept' a.5 in omega arith
 
+-- each step has one number among its codes
+encoded_number : (labels : List ℕ) (repeated kept : List Subtree) (one : SharedStep)
+    (codes : List Code) (kept' : List Subtree) → IsEncoded labels repeated kept one codes kept'
+    → steps_of codes ≡ 1
+encoded_number labels repeated kept (Repeat t) codes kept' a = ap steps_of a.2
+encoded_number labels repeated kept (Make t) codes kept' a =
+    ⊎_elim (λ p. ap steps_of p.1) (λ p. ap steps_of p.1) a.2
+
+encoded_steps : (labels : List ℕ) (repeated kept : List Subtree) (steps : List SharedStep)
+    (codes : List Code) (kept' : List Subtree)
+    → AreEncoded labels repeated kept steps codes kept' → steps_of codes ≡ length steps
+encoded_steps labels repeated kept [] codes kept' a = ap steps_of a.0
+encoded_steps labels repeated kept (one ∷ steps) codes kept' a =
+    let all = ap steps_of a.3 ∙ count_append is_number a.0 a.2 in
+    let here = encoded_number labels repeated kept one a.0 a.1 a.4 in
+    let later = encoded_steps labels repeated a.1 steps a.2 kept' a.5 in omega arith
+
 pub encoded_next : (labels : List ℕ) (repeated : List Subtree) (steps : List SharedStep) (i : ℕ) (d : SharedStep) (codes codes' : List Code) (kept kept' : List Subtree) → i < length steps
     → AreEncoded labels repeated [] (take i steps) codes kept → (here : List Code) × (codes' ≡ codes ++ here) × IsEncoded labels repeated kept (get_or steps i d) here kept'
     → AreEncoded labels repeated [] (take (i + 1) steps) codes' kept'
@@ -501,3 +520,10 @@ steps_packed hypotheses given labels listed repeated steps codes own whole other
   kept = said.0;
   said = subst (λ ls. AreEncoded ls repeated [] steps codes said.0) whole said.1;
 }
+
+-- the codes have as many steps as they say
+pub packed_steps : (hypotheses : List ℕ) (steps : List SharedStep) (listed : List ℕ)
+    (codes : List Code) → AreStepsPacked hypotheses steps listed codes
+    → steps_of codes ≡ length steps
+packed_steps hypotheses steps listed codes a =
+    encoded_steps (a.given ++ listed) a.repeated [] steps codes a.kept a.said

@@ -25,7 +25,8 @@ use Rattle.mm_rules.specs.Answer.{IsKeptOf}
 use Rattle.mm_rules.specs.Conclusion.{Conclusion}
 use Rattle.mm_render.specs.Forms.{IsSmallText, IsSmallOf}
 use Rattle.mm_rules.specs.Rests.{AreInOrder, IsAt, RestsOn, Uses}
-use Rattle.mm_render.specs.Shorter.{DerivesUnder, HasSteps, IsMinimized, MayUse}
+use Rattle.mm_forms.specs.Sharing.{HasSteps}
+use Rattle.mm_render.specs.Shorter.{DerivesUnder, IsMinimized, MayUse}
 use Rattle.mm_rules.specs.Verdict.{sentences}
 use Rattle.mm_rules.specs.Mirror.Marks.{UsedIn, IsAxiomNumber}
 use Rattle.mm_axioms.specs.Mirror.Shortening.{AreFounded}

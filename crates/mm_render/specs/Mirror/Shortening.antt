@@ -5,13 +5,13 @@ use Rattle.mm_frame.specs.Sentence.{Sentence}
 use Rattle.mm_step.specs.declared.profile.Profile.{Profile}
 use Rattle.mm_step.specs.Moves.{Move}
 use Rattle.mm_forms.specs.Packing.{OfTree}
+use Rattle.mm_forms.specs.Sharing.{HasSteps}
 use Rattle.mm_step.specs.Profiles.{limit_of}
 use Rattle.mm_proof.specs.ReadSteps.{ReadSteps}
 use Rattle.mm_step.specs.Steps.{AreSteps}
 use Rattle.mm_proof.specs.Verified.{OfMoves, ProvesUsing}
 use Rattle.mm_render.specs.declared.forms.OwnProof.{OwnProof}
 use Rattle.mm_render.specs.Forms.{IsSmallText}
-use Rattle.mm_render.specs.Shorter.{HasSteps}
 use Rattle.mm_verdict.specs.Mirror.Theorems.{AreProvedSteps}
 
 -- ---- shorter proofs

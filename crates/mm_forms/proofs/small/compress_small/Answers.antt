@@ -79,3 +79,8 @@ returns-clause-small c index s moves proof numbered label below makes =
     c.in_ok-chosen.chosen.labels.items c.in_ok-full.full.codes.items
     c.in_ok-chosen.chosen.codes.items full chosen h.1))
     c.fewer_letters.ensures
+
+pub returns-clause-steps : goal.returns-clause-steps
+returns-clause-steps c index s moves proof numbered label below makes =
+    let packed = c.in_ok-both.ensures.full index s moves proof numbered label below makes in
+    (packed.0, c.in_ok-both.both.full.codes.items, packed.2, c.in_ok-both.ensures.steps)

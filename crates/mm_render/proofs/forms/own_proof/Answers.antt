@@ -1,4 +1,4 @@
--- What is laid out is the small proof, and the steps are those of the packed one.
+-- What is laid out is the small proof, and the steps are its.
 use Rattle.std.proofs.Common.{ℕ, List, ap, subst, ◌∙◌}
 use Rattle.mm_code.specs.Layout.{texts, CompressedLaidOut}
 use Rattle.mm_render.proofs.forms.own_proof.Goals as goal
@@ -6,7 +6,7 @@ use Rattle.mm_render.proofs.forms.own_proof.Goals as goal
 pub returns : goal.returns
 returns c = record {
   text = λ index s moves number numbered label below made.
-      let p = c.in_ok-small.ensures index s moves number numbered label below made in
+      let p = c.in_ok-small.ensures.proof index s moves number numbered label below made in
       let text : List ℕ = c.in_ok-text.text.items in
       record {
         listed = p.listed;
@@ -20,5 +20,5 @@ returns c = record {
             (subst (λ (ls : List (List ℕ)). CompressedLaidOut ls c.deref-2.result.now text)
             (ap texts c.deref.ensures.value ∙ p.laid.0) c.in_ok-text.ensures);
       };
-  steps = c.in_ok-steps.ensures;
+  steps = c.in_ok-small.ensures.steps;
 }

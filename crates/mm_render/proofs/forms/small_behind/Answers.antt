@@ -9,7 +9,7 @@ pub returns : goal.returns
 returns c =
     IfOk-weaker c.lay_out_small.result _ _
     (λ text laid index s moves number numbered label below made.
-    let p = c.in_ok-small.ensures index s moves number numbered label below made in
+    let p = c.in_ok-small.ensures.proof index s moves number numbered label below made in
     record {
       listed = p.listed;
       codes = p.codes;

@@ -13,8 +13,8 @@ compress_small-requires-clause-makes c =
     steps_make c.args.book.now.statements c.args.theorem.now.id.0 c.args.theorem.now.steps
     c.requires.proved
 
-pub returns : goal.returns
-returns c = λ index s moves number numbered label below made.
+pub returns-clause-proof : goal.returns-clause-proof
+returns-clause-proof c = λ index s moves number numbered label below made.
     let told = c.in_ok-small.ensures.small index s moves number numbered label below made in
     let listed : List (List ℕ) = told.0 in
     let names : texts c.in_ok-names.names.items ≡ listed =
@@ -22,7 +22,7 @@ returns c = λ index s moves number numbered label below made.
     AreLabelsOf c.args.book.now.statements ids listed) (sym c.deref.ensures.value) told.1) in
     record {
       listed = listed;
-      codes = c.in_ok-small.small.codes.items;
+      codes = c.in_ok-small.small.packed.codes.items;
       letters = c.in_ok-letters.letters.items;
       small = told.2;
       spelled = subst (λ (codes : List Code). SpellsCodes c.in_ok-letters.letters.items codes)

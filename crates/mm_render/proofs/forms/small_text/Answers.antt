@@ -5,7 +5,7 @@ use Rattle.mm_render.proofs.forms.small_text.Goals as goal
 
 pub returns-clause-text : goal.returns-clause-text
 returns-clause-text c = λ index s moves number numbered label below made.
-    let p = c.in_ok-small.ensures index s moves number numbered label below made in
+    let p = c.in_ok-small.ensures.proof index s moves number numbered label below made in
     let text : List ℕ = c.in_ok-lay_out_compressed.field-0.items in
     record {
       listed = p.listed;

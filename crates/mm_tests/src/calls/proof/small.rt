@@ -38,7 +38,7 @@ fn small_of(alloc: Global, theorem: &Theorem) -> Result<Packed, Fail>
     requires room { sum_by length (texts theorem.now.tokens.items) ≤ most_bytes }
 {
     let steps = accepted_steps(alloc, &theorem.book, theorem.id, &theorem.tokens)?;
-    Ok(compress_small(alloc, &theorem.book, theorem.id, &steps)?)
+    Ok(compress_small(alloc, &theorem.book, theorem.id, &steps)?.packed)
 }
 
 /// Whether the small proof of the first `$p` of a database has these labels and numbers, with 0 for
