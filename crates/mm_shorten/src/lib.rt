@@ -33,6 +33,7 @@ mod rests;
 mod room;
 mod search;
 mod shorten;
+mod step_table;
 mod symbols;
 mod syntax;
 #[cfg(test)]

@@ -1,52 +1,86 @@
 //! Tries over symbols.
 
-use indexmap::IndexMap;
+use crate::step_table::{Step, StepTable};
 use mm_base::Seed;
 use mm_frame::Sym;
 use std::alloc::{AllocError, Global};
 
-/// The node of a trie at which each expression begins.
+/// The node of a trie at which each expression begins. No step leads to it.
 pub(crate) const ROOT: u32 = 0;
 
-// A step of a trie: from a node, by a symbol.
-#[derive(Clone, Copy, PartialEq, Eq, Hash)]
-struct Step {
-    node: u32,
+// The first step from a node, and a filter for the symbols of the others.
+#[derive(Clone, Copy)]
+struct Head {
+    /// The symbol of the first step.
     symbol: u32,
+    /// The node to which it leads; the root where the node has no step.
+    to: u32,
+    /// For each other step the bit of its symbol's number modulo 64.
+    others: u64,
 }
 
-/// The steps of a trie by symbols, and the node to which each leads.
+const NO_STEP: Head = Head {
+    symbol: 0,
+    to: ROOT,
+    others: 0,
+};
+
+/// The steps of a trie by symbols, and the node to which each leads. Most nodes have one step: the
+/// first one of a node stands beside it, and the others stand in a hash table.
 #[derive(Drop)]
 pub(crate) struct Trie {
-    steps: IndexMap<Step, u32, Seed>,
+    heads: Vec<Head>,
+    others: StepTable,
 }
 
 impl Trie {
     /// No steps, whose hashes begin from the seed. It takes no memory.
     pub(crate) fn new(alloc: Global, seed: Seed) -> Trie {
         Trie {
-            steps: IndexMap::with_hasher(alloc, seed),
+            heads: Vec::new(alloc),
+            others: StepTable::new(alloc, seed),
         }
     }
 
     /// Where the step from a node by a symbol leads.
+    #[inline(always)]
     pub(crate) fn follow(&self, node: u32, symbol: Sym) -> Option<u32> {
-        let step = Step {
-            node,
-            symbol: symbol.0,
-        };
-        self.steps.get(&step).copied()
+        let head = self.heads.get(node as usize)?;
+        if head.symbol == symbol.0 && head.to != ROOT {
+            return Some(head.to);
+        }
+        if head.others & bit(symbol) == 0 {
+            return None;
+        }
+        self.others.find(node, symbol.0)
     }
 
-    /// Makes the step from a node by a symbol lead to another node.
+    /// Makes a step, which isn't there yet, lead from a node by a symbol to another node.
     pub(crate) fn lead(&mut self, node: u32, symbol: Sym, to: u32) -> Result<(), AllocError> {
-        let step = Step {
-            node,
-            symbol: symbol.0,
+        for _ in self.heads.len()..=node as usize {
+            self.heads.push(NO_STEP)?;
+        }
+        let Some(head) = self.heads.get_mut(node as usize) else {
+            return Ok(());
         };
-        self.steps.insert(step, to)?;
-        Ok(())
+        if head.to == ROOT {
+            head.symbol = symbol.0;
+            head.to = to;
+            return Ok(());
+        }
+        head.others |= bit(symbol);
+        self.others.add(Step {
+            from: node,
+            symbol: symbol.0,
+            to,
+        })
     }
+}
+
+// The bit of a symbol.
+#[inline(always)]
+fn bit(symbol: Sym) -> u64 {
+    1 << (symbol.0 % 64)
 }
 
 /// The number of the next of some things that are numbered by 32 bits. All those behind
