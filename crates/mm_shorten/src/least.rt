@@ -3,7 +3,7 @@
 
 use crate::budget::Budget;
 use crate::graph::{Edge, Graph, Origin};
-use crate::lists::{end_of, unnoted};
+use crate::lists::{add_one, at, end_of, take_one, unnoted, zeros};
 use std::alloc::{AllocError, Global};
 use std::cmp::Reverse;
 use std::collections::BinaryHeap;
@@ -32,15 +32,26 @@ struct Parent {
     edge: u32,
 }
 
+const NO_PARENT: Parent = Parent { node: 0, edge: 0 };
+
+// For each node the edges that have it as a child, once for each time: those of a node stand
+// together, behind those of the nodes before it.
+#[derive(Drop)]
+struct Parents {
+    parents: Vec<Parent>,
+    /// Where those of each node end, as far as they were added.
+    ends: Vec<u32>,
+}
+
 // The search for least derivations.
 #[derive(Drop)]
 struct Search<'g> {
-    alloc: Global,
     graph: &'g Graph,
-    /// For each node the edges that have it as a child, once for each time.
-    parents: Vec<Vec<Parent>>,
-    /// For each edge how many of its children have no derivation yet.
-    missing: Vec<Vec<u32>>,
+    parents: Parents,
+    /// For each node the number of its first edge, where all edges are counted in order.
+    firsts: Vec<u32>,
+    /// For each edge, by this number, how many of its children have no derivation yet.
+    missing: Vec<u32>,
     /// For each node the size of its least tree.
     sizes: Vec<u128>,
     is_done: Vec<bool>,
@@ -56,21 +67,91 @@ fn may_take(allowed: Allowed, edge: &Edge) -> bool {
     }
 }
 
+// For each node how many times it is a child of edges that may be taken.
+fn count_parents(alloc: Global, graph: &Graph, allowed: Allowed) -> Result<Vec<u32>, AllocError> {
+    let mut counts = zeros(alloc, graph.expressions.len())?;
+    for node in 0..end_of(graph.edges.len()) {
+        if graph.hypothesis_of(node).is_none() {
+            count_children(&mut counts, graph.edges_of(node), allowed);
+        }
+    }
+    Ok(counts)
+}
+
+// Counts the children of those of these edges that may be taken.
+fn count_children(counts: &mut [u32], edges: &[Edge], allowed: Allowed) {
+    for edge in edges {
+        if may_take(allowed, edge) {
+            for child in &edge.children {
+                add_one(counts, *child);
+            }
+        }
+    }
+}
+
+// Makes of each count the sum of those before it, and answers the sum of all.
+fn sum_before(counts: &mut [u32]) -> u32 {
+    let mut sum = 0u32;
+    for count in counts.iter_mut() {
+        let next = sum.saturating_add(*count);
+        *count = sum;
+        sum = next;
+    }
+    sum
+}
+
+// For each node the number of its first edge, and how many edges there are.
+fn first_edges(alloc: Global, graph: &Graph) -> Result<(Vec<u32>, u32), AllocError> {
+    let mut firsts = Vec::with_capacity(alloc, graph.edges.len())?;
+    let mut count = 0u32;
+    for edges in &graph.edges {
+        firsts.push(count)?;
+        count = count.saturating_add(end_of(edges.len()));
+    }
+    Ok((firsts, count))
+}
+
+impl Parents {
+    // Room for all, and none of them.
+    fn with_room(alloc: Global, graph: &Graph, allowed: Allowed) -> Result<Parents, AllocError> {
+        let mut ends = count_parents(alloc, graph, allowed)?;
+        let count = sum_before(&mut ends);
+        let parents = vec![in alloc; NO_PARENT; count as usize]?;
+        Ok(Parents { parents, ends })
+    }
+
+    // Adds one of a node.
+    fn add(&mut self, child: u32, parent: Parent) {
+        let Some(end) = self.ends.get_mut(child as usize) else {
+            return;
+        };
+        if let Some(place) = self.parents.get_mut(*end as usize) {
+            *place = parent;
+        }
+        *end = end.saturating_add(1);
+    }
+
+    // Where those of a node begin and end, once all were added.
+    fn range(&self, node: u32) -> (u32, u32) {
+        let start = if node == 0 {
+            0
+        } else {
+            at(&self.ends, node - 1)
+        };
+        (start, at(&self.ends, node))
+    }
+}
+
 impl<'g> Search<'g> {
     // Nothing is derived.
-    fn new(alloc: Global, graph: &'g Graph) -> Result<Search<'g>, AllocError> {
+    fn new(alloc: Global, graph: &'g Graph, allowed: Allowed) -> Result<Search<'g>, AllocError> {
         let count = graph.expressions.len();
-        let mut parents = Vec::with_capacity(alloc, count)?;
-        let mut missing = Vec::with_capacity(alloc, count)?;
-        for edges in &graph.edges {
-            parents.push(Vec::new(alloc))?;
-            missing.push(vec![in alloc; 0u32; edges.len()]?)?;
-        }
+        let (firsts, edges) = first_edges(alloc, graph)?;
         Ok(Search {
-            alloc,
             graph,
-            parents,
-            missing,
+            parents: Parents::with_room(alloc, graph, allowed)?,
+            firsts,
+            missing: zeros(alloc, edges as usize)?,
             sizes: vec![in alloc; 0u128; count]?,
             is_done: unnoted(alloc, count)?,
             chosen: vec![in alloc; None; count]?,
@@ -104,34 +185,18 @@ impl<'g> Search<'g> {
         if edge.children.is_empty() {
             return self.push(1, node, Some(index));
         }
+        let parent = Parent { node, edge: index };
+        let number = self.edge_number(parent);
         for child in &edge.children {
-            if let Some(parents) = self.parents.get_mut(*child as usize) {
-                parents.push(Parent { node, edge: index })?;
-            }
-            self.count(node, index);
+            self.parents.add(*child, parent);
+            add_one(&mut self.missing, number);
         }
         Ok(())
     }
 
-    // The edge waits for one more child.
-    fn count(&mut self, node: u32, index: u32) {
-        if let Some(edges) = self.missing.get_mut(node as usize) {
-            if let Some(missing) = edges.get_mut(index as usize) {
-                *missing = missing.saturating_add(1);
-            }
-        }
-    }
-
-    // One more child of the edge is derived; whether it was the last.
-    fn uncount(&mut self, parent: Parent) -> bool {
-        let Some(edges) = self.missing.get_mut(parent.node as usize) else {
-            return false;
-        };
-        let Some(missing) = edges.get_mut(parent.edge as usize) else {
-            return false;
-        };
-        *missing = missing.saturating_sub(1);
-        *missing == 0
+    // The number of an edge among all.
+    fn edge_number(&self, edge: Parent) -> u32 {
+        at(&self.firsts, edge.node).saturating_add(edge.edge)
     }
 
     // The size of the tree over the least trees of the edge's children.
@@ -163,19 +228,20 @@ impl<'g> Search<'g> {
         if let Some(chosen) = self.chosen.get_mut(index) {
             *chosen = least.edge;
         }
-        self.tell_parents(index, budget)
+        self.tell_parents(least.node, budget)
     }
 
     // The edges that waited for the node wait for one child less.
-    fn tell_parents(&mut self, index: usize, budget: &mut Budget) -> Result<(), AllocError> {
-        let Some(here) = self.parents.get_mut(index) else {
-            return Ok(());
-        };
-        let parents = std::mem::replace(here, Vec::new(self.alloc));
-        for parent in &parents {
+    fn tell_parents(&mut self, node: u32, budget: &mut Budget) -> Result<(), AllocError> {
+        let (start, end) = self.parents.range(node);
+        for index in start..end {
+            let Some(parent) = self.parents.parents.get(index as usize).copied() else {
+                break;
+            };
             budget.take(1);
-            if self.uncount(*parent) {
-                let size = self.size_over(*parent);
+            let number = self.edge_number(parent);
+            if take_one(&mut self.missing, number) {
+                let size = self.size_over(parent);
                 self.push(size, parent.node, Some(parent.edge))?;
             }
         }
@@ -191,7 +257,7 @@ pub(crate) fn least_edges(
     allowed: Allowed,
     budget: &mut Budget,
 ) -> Result<Vec<Option<u32>>, AllocError> {
-    let mut search = Search::new(alloc, graph)?;
+    let mut search = Search::new(alloc, graph, allowed)?;
     for node in 0..end_of(graph.edges.len()) {
         search.begin(node, allowed)?;
     }
