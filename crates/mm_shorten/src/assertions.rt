@@ -43,6 +43,22 @@ pub(crate) struct Template {
     pub(crate) mathbox: u32,
 }
 
+/// What is asked of a template before it is read.
+#[derive(Clone, Copy)]
+pub(crate) struct Candidate {
+    /// Its number.
+    pub(crate) number: u32,
+    /// The number of its label.
+    pub(crate) label: LabelId,
+    /// How many mandatory hypotheses it has.
+    pub(crate) hypotheses: u32,
+    /// The number of its mathbox; 0 outside of all.
+    pub(crate) mathbox: u32,
+    // Where the patterns of its `$e` stand.
+    start: usize,
+    end: usize,
+}
+
 /// How an assertion is entered.
 #[derive(Clone, Copy)]
 pub struct Entry<'u> {
@@ -64,8 +80,10 @@ pub struct Library {
     pub(crate) patterns: Patterns,
     pub(crate) templates: Vec<Template>,
     pub(crate) grounds: Grounds,
-    /// For each pattern the numbers of the templates that conclude it.
-    concluding: Vec<Vec<u32>>,
+    /// For each pattern the templates that conclude it.
+    concluding: Vec<Vec<Candidate>>,
+    /// The patterns of the `$e` of all templates, one template after the other.
+    essentials: Vec<u32>,
 }
 
 impl Library {
@@ -78,6 +96,7 @@ impl Library {
             templates: Vec::new(alloc),
             grounds: Grounds::new(alloc),
             concluding: Vec::new(alloc),
+            essentials: Vec::new(alloc),
         }
     }
 
@@ -131,11 +150,20 @@ impl Library {
         self.templates.get(number as usize)
     }
 
-    /// The numbers of the templates that conclude a pattern.
-    pub(crate) fn concluding(&self, pattern: u32) -> &[u32] {
+    /// The templates that conclude a pattern.
+    pub(crate) fn concluding(&self, pattern: u32) -> &[Candidate] {
         match self.concluding.get(pattern as usize) {
-            Some(numbers) => numbers,
+            Some(candidates) => candidates,
             None => &[],
+        }
+    }
+
+    /// The patterns of the `$e` of a template, in order.
+    pub(crate) fn essential_patterns(&self, candidate: Candidate) -> &[u32] {
+        if candidate.start <= candidate.end && candidate.end <= self.essentials.len() {
+            &self.essentials[candidate.start..candidate.end]
+        } else {
+            &[]
         }
     }
 
@@ -159,16 +187,32 @@ impl Library {
 
     // Puts a template behind the others.
     fn put(&mut self, template: Template) -> Result<(), AllocError> {
-        let number = next_number(self.templates.len());
+        let candidate = self.candidate(&template)?;
         for _ in self.concluding.len()..self.patterns.count() as usize {
             self.concluding.push(Vec::new(self.alloc))?;
         }
         let pattern = template.conclusion.pattern;
         self.templates.push(template)?;
-        if let Some(numbers) = self.concluding.get_mut(pattern as usize) {
-            numbers.push(number)?;
+        if let Some(candidates) = self.concluding.get_mut(pattern as usize) {
+            candidates.push(candidate)?;
         }
         Ok(())
+    }
+
+    // What is asked of a template that is put behind the others.
+    fn candidate(&mut self, template: &Template) -> Result<Candidate, AllocError> {
+        let start = self.essentials.len();
+        for essential in &template.essentials {
+            self.essentials.push(essential.placed.pattern)?;
+        }
+        Ok(Candidate {
+            number: next_number(self.templates.len()),
+            label: template.label,
+            hypotheses: template.hypotheses,
+            mathbox: template.mathbox,
+            start,
+            end: self.essentials.len(),
+        })
     }
 }
 

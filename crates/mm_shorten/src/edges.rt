@@ -3,7 +3,7 @@
 ghost use Rattle.std.specs.Prelude.{◌≤◌};
 
 use crate::apart::Variables;
-use crate::assertions::{Library, Template};
+use crate::assertions::{Candidate, Library, Template};
 use crate::budget::Budget;
 use crate::goals::Goal;
 use crate::graph::{Edge, Graph, Origin};
@@ -77,6 +77,7 @@ pub(crate) struct Search<'s, 't, 'b, 'a> {
 #[derive(Drop)]
 pub(crate) struct Finds {
     variables: Variables,
+    join: Join,
     pub(crate) opened: Opened,
 }
 
@@ -85,6 +86,7 @@ impl Finds {
     pub(crate) fn new(alloc: Global, seed: Seed) -> Finds {
         Finds {
             variables: Variables::new(alloc, seed),
+            join: Join::new(alloc),
             opened: Opened::new(alloc, seed),
         }
     }
@@ -127,41 +129,38 @@ impl<'s, 't, 'b, 'a> Search<'s, 't, 'b, 'a> {
     ) -> Result<(), AllocError>
         ensures { budget.new ≤ budget.old }
     {
-        for number in self.library.concluding(row.pattern) {
+        for candidate in self.library.concluding(row.pattern) {
             if !budget.take(1) {
                 break;
+            }
+            if !self.may_use(*candidate, goal, matches) {
+                continue;
             }
             let ask = Ask {
                 row,
                 goal,
-                number: *number,
+                number: candidate.number,
             };
-            if let Some(template) = self.library.template(*number) {
-                if self.may_use(template, goal, matches) {
-                    self.run_join(ask, template, matches, graph, finds, budget)?;
-                }
+            if let Some(template) = self.library.template(candidate.number) {
+                self.run_join(ask, template, matches, graph, finds, budget)?;
             }
         }
         Ok(())
     }
 
     // Whether an assertion may be used, and a step by it could save something.
-    fn may_use(&self, template: &Template, goal: Goal, matches: &Matches) -> bool {
-        if template.hypotheses as u64 >= goal.steps {
+    fn may_use(&self, candidate: Candidate, goal: Goal, matches: &Matches) -> bool {
+        if candidate.hypotheses as u64 >= goal.steps {
             return false;
         }
-        if template.mathbox != 0 && template.mathbox != self.theorem.mathbox {
+        if candidate.mathbox != 0 && candidate.mathbox != self.theorem.mathbox {
             return false;
         }
-        let lacking = template
-            .essentials
-            .iter()
-            .filter(|essential| !matches.has(essential.placed.pattern))
-            .count();
-        if lacking > self.may_lack as usize {
+        let patterns = self.library.essential_patterns(candidate);
+        if lacks_more(patterns, self.may_lack, matches) {
             return false;
         }
-        is_within(self.library.grounds.set(template.label), self.grounds)
+        is_within(self.library.grounds.set(candidate.label), self.grounds)
     }
 
     // Adds the edges for a goal by an assertion.
@@ -179,10 +178,28 @@ impl<'s, 't, 'b, 'a> Search<'s, 't, 'b, 'a> {
         let may_lack = self.may_lack
             && (template.hypotheses as u64) < ask.goal.exclusive
             && finds.opened.may_open(ask.number);
-        let mut join = Join::new(self.library.alloc, template, may_lack)?;
-        join.begin(template, matches.bindings(ask.row))?;
-        join.run(template, matches, budget)?;
-        for met in &join.met {
+        finds.join.reset(template, may_lack)?;
+        finds.join.begin(template, matches.bindings(ask.row))?;
+        finds.join.run(template, matches, budget)?;
+        if finds.join.met.is_empty() {
+            return Ok(());
+        }
+        self.take_all(ask, template, graph, finds, budget)
+    }
+
+    // Takes what the join met and is allowed.
+    fn take_all(
+        &self,
+        ask: Ask,
+        template: &Template,
+        graph: &mut Graph,
+        finds: &mut Finds,
+        budget: &mut Budget,
+    ) -> Result<(), AllocError>
+        ensures { budget.new ≤ budget.old }
+    {
+        let all = std::mem::replace(&mut finds.join.met, Vec::new(self.library.alloc));
+        for met in &all {
             if self.is_allowed(ask, template, met, graph, finds, budget)? {
                 self.take(ask, template, met, graph, finds)?;
             }
@@ -251,4 +268,18 @@ impl<'s, 't, 'b, 'a> Search<'s, 't, 'b, 'a> {
         graph.add(ask.goal.node, edge)?;
         Ok(())
     }
+}
+
+// Whether more of these patterns have no row that was listed than may: one, or none.
+fn lacks_more(patterns: &[u32], may_lack: bool, matches: &Matches) -> bool {
+    let mut may_lack = may_lack;
+    for pattern in patterns {
+        if !matches.has(*pattern) {
+            if !may_lack {
+                return true;
+            }
+            may_lack = false;
+        }
+    }
+    false
 }

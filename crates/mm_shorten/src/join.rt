@@ -71,7 +71,8 @@ struct Choice {
     missing: Option<usize>,
 }
 
-/// A join: the ways to meet the `$e` of an assertion by rows, one `$e` after the other.
+/// A join: the ways to meet the `$e` of an assertion by rows, one `$e` after the other. Its lists
+/// are used again for the next assertion.
 #[derive(Drop)]
 pub(crate) struct Join {
     alloc: Global,
@@ -87,25 +88,30 @@ pub(crate) struct Join {
 }
 
 impl Join {
-    /// The join for an assertion, where one `$e` may be missing or none.
-    pub(crate) fn new(
-        alloc: Global,
-        template: &Template,
-        may_lack: bool,
-    ) -> Result<Join, AllocError> {
-        let mut nodes = Vec::with_capacity(alloc, template.hypotheses as usize)?;
-        for _ in 0..template.hypotheses {
-            nodes.push(None)?;
-        }
-        Ok(Join {
+    /// A join for no assertion yet. It takes no memory.
+    pub(crate) fn new(alloc: Global) -> Join {
+        Join {
             alloc,
-            nodes,
+            nodes: Vec::new(alloc),
             trail: Vec::new(alloc),
             levels: Vec::new(alloc),
             steps: 0,
-            may_lack,
+            may_lack: false,
             met: Vec::new(alloc),
-        })
+        }
+    }
+
+    /// Makes it the join for an assertion, where one `$e` may be missing or none: nothing is bound
+    /// or found.
+    pub(crate) fn reset(&mut self, template: &Template, may_lack: bool) -> Result<(), AllocError> {
+        self.nodes.clear();
+        self.nodes.resize(template.hypotheses as usize, None)?;
+        self.trail.clear();
+        self.levels.clear();
+        self.steps = 0;
+        self.may_lack = may_lack;
+        self.met.clear();
+        Ok(())
     }
 
     /// Binds the variables of the conclusion.

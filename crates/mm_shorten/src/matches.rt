@@ -3,6 +3,7 @@
 ghost use Rattle.std.specs.Prelude.{◌≤◌, length, OnOk};
 
 use crate::budget::Budget;
+use crate::lists::{at, set};
 use crate::patterns::Placed;
 use crate::room::{MOST_HELD, has_room};
 use crate::trie::next_number;
@@ -52,8 +53,8 @@ pub(crate) struct Matches {
     lists: Vec<Vec<u32>>,
     /// How many indices the lists have in all.
     listed: usize,
-    /// By pattern, the number of its list.
-    by_pattern: IndexMap<u32, u32, Seed>,
+    /// For each pattern, up to the greatest that has one, the number of its list.
+    by_pattern: Vec<u32>,
     by_key: IndexMap<Key, u32, Seed>,
     /// The variables of patterns whose lists were made.
     made: IndexMap<Mask, (), Seed>,
@@ -68,7 +69,7 @@ impl Matches {
             bindings: Vec::new(alloc),
             lists: Vec::new(alloc),
             listed: 0,
-            by_pattern: IndexMap::with_hasher(alloc, seed),
+            by_pattern: Vec::new(alloc),
             by_key: IndexMap::with_hasher(alloc, seed),
             made: IndexMap::with_hasher(alloc, seed),
         };
@@ -169,7 +170,7 @@ impl Matches {
 
     // The number of the list of a pattern.
     fn list_of(&self, pattern: u32) -> u32 {
-        self.by_pattern.get(&pattern).copied().unwrap_or(NO_ROWS)
+        at(&self.by_pattern, pattern)
     }
 
     // The number of the list of a pattern, which is made where there is none.
@@ -179,7 +180,10 @@ impl Matches {
             return Ok(list);
         }
         let list = self.add_list()?;
-        self.by_pattern.insert(pattern, list)?;
+        for _ in self.by_pattern.len()..=pattern as usize {
+            self.by_pattern.push(NO_ROWS)?;
+        }
+        set(&mut self.by_pattern, pattern, list);
         Ok(list)
     }
 

@@ -138,7 +138,8 @@ fn ways_to_q(
     let template = modus_ponens(alloc, &mut patterns)?;
     let graph = graph_of(alloc, conclusions)?;
     let mut matches = rows_of(alloc, &patterns, &graph)?;
-    let mut join = Join::new(alloc, &template, may_lack)?;
+    let mut join = Join::new(alloc);
+    join.reset(&template, may_lack)?;
     join.begin(&template, &[1])?;
     join.run(&template, &mut matches, &mut Budget::new(1_000))?;
     let mut ways = Vec::new(alloc);

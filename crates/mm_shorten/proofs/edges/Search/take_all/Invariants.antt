@@ -1,6 +1,6 @@
 -- Nothing is put back into the budget.
 use Rattle.std.proofs.Common.{◌≤◌}
-use Rattle.mm_shorten.proofs.edges.Search.run_join.Given as goal
+use Rattle.mm_shorten.proofs.edges.Search.take_all.Given as goal
 
 abbrev pub invariant-loop-met : goal.invariant-loop-met
 invariant-loop-met l = l.budget ≤ l.initial.budget
