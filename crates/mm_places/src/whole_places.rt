@@ -1,6 +1,6 @@
 //! Where among its tokens a proof breaks a rule that is judged over the whole of it.
 
-ghost use Rattle.std.specs.Prelude.{◌≡◌, ◌↔◌, ◌+◌, ◌<◌, ◌≤◌, ◌⊎◌, ℕ, List, Contains, All};
+ghost use Rattle.std.specs.Prelude.{◌≡◌, ◌↔◌, ◌+◌, ◌<◌, ◌≤◌, ℕ, List, Contains, All};
 ghost use Rattle.std.specs.Prelude.{length, take, slice_get, Some, IfOk, IsTrue, MatchOption};
 ghost use Rattle.std.specs.Prelude.{true, false};
 ghost use Rattle.std.specs.List.{flat_map};

@@ -2,7 +2,7 @@
 -- which its letters break a rule. Clauses of `whole_place` rest on it.
 use Rattle.std.proofs.Common.{◌≡◌, ◌≢◌, ◌↔◌, ℕ, zero, suc, ◌+◌, ◌-◌, ◌*◌, ◌<◌, ◌≤◌, List, [], ◌∷◌}
 use Rattle.std.proofs.Common.{◌++◌, length, map, take, drop, get_or, slice_get, Contains}
-use Rattle.std.proofs.Common.{Option, Some, None, unwrap_or, ◌⊎◌, inl, inr, refl, sym, ap}
+use Rattle.std.proofs.Common.{Option, Some, None, unwrap_or, inl, inr, refl, sym, ap}
 use Rattle.std.proofs.Common.{subst, ◌∙◌, arith, flat_map, append_assoc, append-nil, Bool, true}
 use Rattle.std.proofs.Common.{false, IsTrue, if◌then◌else◌}
 use Rattle.std.specs.List.{AllByRecursion, position_or_len, before_first}
@@ -12,7 +12,7 @@ use Rattle.std.proofs.lemmas.List.{length-append, map-append, length-map, length
 use Rattle.std.proofs.lemmas.List.{length-take-le, take-append-le, take_rest}
 use Rattle.std.proofs.lemmas.Option.{slice_get_within, none-some, same_Some}
 use Rattle.mm_base.specs.declared.token.Token.{Token}
-use Rattle.mm_base.proofs.Lists.{get_after, get_kept, get_in_front, get_take, get_from_take}
+use Rattle.mm_base.proofs.Lists.{get_after, get_kept, get_take, get_from_take}
 use Rattle.mm_base.proofs.Lists.{contains_from_at, append_cases, all_push, zip_push, split_at}
 use Rattle.mm_base.proofs.Lists.{cons_parts, get_parted, get_within}
 use Rattle.mm_code.specs.declared.code.Code.{Code}

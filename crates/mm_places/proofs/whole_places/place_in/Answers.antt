@@ -2,18 +2,11 @@
 use Rattle.std.proofs.Common.{take, subst, sym, refl}
 use Rattle.std.proofs.lemmas.Result.{IfOk-weaker}
 use Rattle.mm_step.specs.declared.fault.ProofRule.{ProofRule}
-use Rattle.mm_step.specs.declared.fault.ProofRule.TheVariants.{P2, P3, P4, P5}
+use Rattle.mm_step.specs.declared.fault.ProofRule.TheVariants.{P3}
 use Rattle.mm_step.specs.Plain.{token_texts}
 use Rattle.mm_places.specs.WholePlaces.{IsWholePlace}
 use Rattle.mm_places.proofs.ProofPlaces.WholePlaces.{only_whole, of_own, breaks_as, idle_there}
 use Rattle.mm_places.proofs.whole_places.place_in.Goals as goal
-
-pub label_index-requires-clause-blamed : goal.label_index-requires-clause-blamed
-label_index-requires-clause-blamed c =
-    let own = c.requires.own in
-    breaks_as (take c.args.own.now.index c.args.book.now.statements) own.0
-    (token_texts c.args.tokens.now) c.args.rule P2 c.in-P2.is (λ e. cc)
-    (c.requires.broken c.args.own.now.index own.0 own.1)
 
 pub label_index-requires-in-P3-clause-blamed : goal.label_index-requires-in-P3-clause-blamed
 label_index-requires-in-P3-clause-blamed c =
@@ -22,20 +15,6 @@ label_index-requires-in-P3-clause-blamed c =
     (breaks_as (take c.args.own.now.index c.args.book.now.statements) own.0
     (token_texts c.args.tokens.now) c.args.rule P3 c.in-P3.is (λ e. cc)
     (c.requires.broken c.args.own.now.index own.0 own.1))
-
-pub letter_place-requires : goal.letter_place-requires
-letter_place-requires c =
-    let own = c.requires.own in
-    breaks_as (take c.args.own.now.index c.args.book.now.statements) own.0
-    (token_texts c.args.tokens.now) c.args.rule P4 c.in-P4.is (λ e. cc)
-    (c.requires.broken c.args.own.now.index own.0 own.1)
-
-pub letter_place-requires-in-P5 : goal.letter_place-requires-in-P5
-letter_place-requires-in-P5 c =
-    let own = c.requires.own in
-    breaks_as (take c.args.own.now.index c.args.book.now.statements) own.0
-    (token_texts c.args.tokens.now) c.args.rule P5 c.in-P5.is (λ e. cc)
-    (c.requires.broken c.args.own.now.index own.0 own.1)
 
 pub unreachable-requires : goal.unreachable-requires
 unreachable-requires c =
