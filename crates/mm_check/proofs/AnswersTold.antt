@@ -1,8 +1,9 @@
 -- The text and the status of the reply to each question.
-use Rattle.std.proofs.Common.{Bool, ◌≡◌, ℕ}
-use Rattle.std.proofs.Common.{List, [], ◌∷◌, map}
+use Rattle.std.proofs.Common.{◌≡◌, ℕ, List, [], ◌∷◌, map}
 use Rattle.std.proofs.Common.{refl, ap, sym, subst}
-use Rattle.std.proofs.Common.{◌∙◌, ◌≢◌, Option, Some, None, Result, Ok, Err, MatchOption, IfSome}
+use Rattle.std.proofs.Common.{◌∙◌, ◌≢◌, Some, None, Result, Ok, Err, MatchOption, IfSome}
+use Rattle.std.proofs.Common.{IfOk, IfErr, MatchResult}
+use Rattle.std.specs.Global.{Vec}
 use Rattle.std.proofs.Common.{inl, inr}
 use Rattle.mm_text.specs.Files.{PlainFile}
 use Rattle.mm_rules.specs.declared.fault.Refusal.{Refusal}
@@ -10,40 +11,38 @@ use Rattle.mm_rules.specs.Answer.{plain_refusal, verdict_of_conclusion}
 use Rattle.mm_rules.specs.Answer.{verdict_of_answer, verdict_of_fault}
 use Rattle.mm_rules.specs.Answer.{IsVerdict, KeepsFiles}
 use Rattle.mm_rules.specs.Conclusion.{Conclusion}
+use Rattle.mm_rules.specs.Status.{number_of}
+use Rattle.mm_verdict.specs.declared.reply.Reply.{Reply}
 use Rattle.mm_verdict.specs.Reply.{refusals_text, text_of}
 use Rattle.mm_check.specs.Reply.{IsReply, IsRefused}
 use Rattle.mm_check.specs.Reply.{IsQuestionReply, IsFaultsReply}
 use Rattle.mm_verdict.specs.Reply.{Tells, status_of, refusal_status}
 use Rattle.mm_verdict.specs.Reply.{IsAskReply}
-use Rattle.mm_check.specs.Reply.{IsAllSavedReply, IsAllAxiomsReply}
-use Rattle.mm_axioms.specs.Reply.{lines_text}
-use Rattle.mm_rules.specs.Places.{name_of}
-use Rattle.mm_check.specs.Reply.{IsAllShortenedReply, IsShorterReply}
-use Rattle.mm_minimize.specs.AllShorter.{IsAllShorterFault, ShorterLine, AreShorterLines, shorter_text}
-use Rattle.mm_axioms.specs.AllAxioms.{ReportLine, AreReportLines}
+use Rattle.mm_check.specs.Reply.{IsTextReply, IsListAnswer}
 use Rattle.mm_rules.specs.Verdict.{Refused, Verdict, Load, HasVerdict}
 use Rattle.mm_base.specs.Statement.{PlainStatement}
 use Rattle.mm_text.specs.Reading.{Reads}
 use Rattle.mm_step.specs.declared.profile.Profile.{Profile}
-use Rattle.mm_step.specs.declared.profile.Profile.TheVariants.{Lenient}
 use Rattle.mm_rules.specs.declared.fault.CheckFault.{CheckFault}
-use Rattle.mm_verdict.specs.declared.form.Form.{Form}
 use Rattle.mm_rules.specs.declared.ask.AskFault.{AskFault}
-use Rattle.mm_save.specs.AllSaved.{IsAllSaveFault}
 use Rattle.mm_verdict.specs.Faults.{HaveFaults}
 use Rattle.mm_rules.specs.declared.fault.CheckFault.TheVariants as fault
-use Rattle.mm_rules.specs.declared.ask.AskFault.TheVariants as ask
 use Rattle.mm_verdict.proofs.ReplyTexts.{accepted_with}
 
 -- ==== the text and the status that tell a verdict are those of the reply
 
-pub reply_at : (profile : Profile) (files : List PlainFile) (told : Option Verdict) (text : List ℕ) (status : ℕ)
-    → ((verdict : Verdict) → told ≡ Some verdict → HasVerdict profile files verdict)
-    → MatchOption told ⊥ (λ verdict. text ≡ text_of files verdict) → IfSome told (λ verdict. status ≡ status_of verdict)
+-- the verdict is told in the refusal, or in the answer
+pub verdict_told : (profile : Profile) (files : List PlainFile) (text : List ℕ) (status : ℕ)
+    → IsQuestionReply profile files (λ statements answer ends. IsReply profile files answer ends)
+    text status
     → IsReply profile files text status
-reply_at profile files None text status holds said ends = absurd said
-reply_at profile files (Some verdict) text status holds said ends =
-    record { verdict = verdict; holds = holds verdict refl; said = said; ends = ends }
+verdict_told profile files text status (inl refused) = record {
+  verdict = refused.verdict;
+  holds = refused.holds;
+  said = refused.said;
+  ends = refused.ends;
+}
+verdict_told profile files text status (inr (statements, accepted, told)) = told
 
 -- the text and the status that tell refusals, of which there is one, are those of the reply
 pub told_all : (profile : Profile) (files : List PlainFile) (given refusals : List Refusal)
@@ -62,148 +61,109 @@ told_all profile files given (first ∷ others) text status same faults some sai
   ends first others same,
 )
 
--- the answer over the statements of the files that are kept
-pub question_read : (files : List PlainFile) (answer : Result Conclusion CheckFault) (c : Conclusion) (Answers : List PlainStatement → List ℕ → ℕ → Type 0) (text : List ℕ) (status : ℕ)
-    → answer ≡ Ok c → IsVerdict Lenient files answer → KeepsFiles files c
-    → ((statements : List PlainStatement) → Reads c.files statements None → Answers statements text status)
-    → IsQuestionReply files Answers text status
-question_read files answer c Answers text status is holds same answers =
-    let told : verdict_of_answer answer ≡ Some (verdict_of_conclusion c) = ap verdict_of_answer is in
-    let found = accepted_with Lenient files c c.incomplete (holds (verdict_of_conclusion c) told) in
-    inr (found.0, found.1, answers found.0 (subst (λ (fs : List PlainFile). Reads fs found.0 None) (sym same) found.1.reads))
+-- the text that is so is told, or the fault that is so
+pub text_told : {E : Type 0} (files : List PlainFile) (label : List ℕ)
+    (IsText : List PlainStatement → List ℕ → Type 0)
+    (IsFault : List PlainStatement → AskFault → Type 0)
+    (answer : Result (Vec ℕ) AskFault) (told : Result Reply E)
+    → IfOk answer (λ text. (statements : List PlainStatement) → Reads files statements None
+    → IsText statements text.items)
+    → IfErr answer (λ fault. (statements : List PlainStatement) → Reads files statements None
+    → IsFault statements fault)
+    → IfOk told (λ reply. MatchResult answer
+    (λ text. (reply.text.items ≡ text.items) × (number_of reply.status ≡ 0))
+    (λ fault. IsAskReply fault label reply.text.items (number_of reply.status)))
+    → IfOk told (λ reply. (statements : List PlainStatement) → Reads files statements None
+    → IsTextReply (IsText statements) (IsFault statements) label reply.text.items
+    (number_of reply.status))
+text_told files label IsText IsFault answer (Err e) said why told = tt
+text_told files label IsText IsFault (Ok text) (Ok reply) said why told = λ statements reads. inr (
+  subst (λ (t : List ℕ). IsText statements t) (sym told.0) (said statements reads),
+  told.1,
+)
+text_told files label IsText IsFault (Err fault) (Ok reply) said why told = λ statements reads.
+    inl (fault, why statements reads, told)
+
+-- a list that is so is told, with the status of the verdict
+pub list_told : {E F : Type 0} (c : Conclusion) (Lists : List PlainStatement → List ℕ → Type 0)
+    (list : Result (Vec ℕ) F) (told : Result Reply E)
+    → IfOk list (λ text. (statements : List PlainStatement) → Reads c.files statements None
+    → Lists statements text.items)
+    → IfOk told (λ reply. MatchResult list
+    (λ text. (reply.text.items ≡ text.items)
+    × (number_of reply.status ≡ status_of (verdict_of_conclusion c)))
+    (λ fault. ⊥))
+    → IfOk told (λ reply. (statements : List PlainStatement) → Reads c.files statements None
+    → HasVerdict c.profile c.files (verdict_of_conclusion c)
+    → IsListAnswer Lists c.profile c.files statements reply.text.items (number_of reply.status))
+list_told c Lists list (Err e) lists told = tt
+list_told c Lists (Err fault) (Ok reply) lists told = absurd told
+list_told c Lists (Ok text) (Ok reply) lists told = λ statements reads has. (
+  subst (λ (t : List ℕ). Lists statements t) (sym told.0) (lists statements reads),
+  verdict_of_conclusion c,
+  has,
+  told.1,
+)
+
+-- the answer over the statements of the files that are kept, in the profile that is
+pub question_read : (profile : Profile) (files : List PlainFile)
+    (answer : Result Conclusion CheckFault) (c : Conclusion)
+    (Answers : Profile → List PlainFile → List PlainStatement → List ℕ → ℕ → Type 0)
+    (text : List ℕ) (status : ℕ)
+    → answer ≡ Ok c → IsVerdict profile files answer → KeepsFiles files c → c.profile ≡ profile
+    → ((statements : List PlainStatement) → Reads c.files statements None
+    → HasVerdict c.profile c.files (verdict_of_conclusion c)
+    → Answers c.profile c.files statements text status)
+    → IsQuestionReply profile files (Answers profile files) text status
+question_read profile files answer c Answers text status is holds same under answers =
+    let verdict : Verdict = verdict_of_conclusion c in
+    let has : HasVerdict profile files verdict = holds verdict (ap verdict_of_answer is) in
+    let found = accepted_with profile files c c.incomplete has in
+    let reads = subst (λ (fs : List PlainFile). Reads fs found.0 None) (sym same) found.1.reads in
+    let own = subst (λ (p : Profile). HasVerdict p c.files verdict) (sym under)
+    (subst (λ (fs : List PlainFile). HasVerdict profile fs verdict) (sym same) has) in
+    inr (
+      found.0,
+      found.1,
+      subst (λ (p : Profile). Answers p files found.0 text status) under
+          (subst (λ (fs : List PlainFile). Answers c.profile fs found.0 text status) same
+          (answers found.0 reads own)),
+    )
 
 -- the refusal of the files
-refused_at : (files : List PlainFile) (fault : CheckFault) (text : List ℕ) (status : ℕ)
-    → ((verdict : Verdict) → verdict_of_fault fault ≡ Some verdict → HasVerdict Lenient files verdict)
-    → MatchOption (verdict_of_fault fault) ⊥ (λ verdict. text ≡ text_of files verdict) → IfSome (verdict_of_fault fault) (λ verdict. status ≡ status_of verdict)
-    → IsRefused files text status
-refused_at files (fault.Load rule) text status holds said ends =
-    record { verdict = Load rule; holds = holds (Load rule) refl; refuses = tt; said = said; ends = ends }
-refused_at files (fault.Refused r) text status holds said ends =
-    record { verdict = Refused (plain_refusal r); holds = holds (Refused (plain_refusal r)) refl; refuses = tt; said = said; ends = ends }
-refused_at files fault.Memory text status holds said ends = absurd said
-
-pub question_refused : (files : List PlainFile) (answer : Result Conclusion CheckFault) (fault : CheckFault) (Answers : List PlainStatement → List ℕ → ℕ → Type 0) (text : List ℕ) (status : ℕ)
-    → answer ≡ Err fault → IsVerdict Lenient files answer → Tells files answer text → IfSome (verdict_of_answer answer) (λ verdict. status ≡ status_of verdict)
-    → IsQuestionReply files Answers text status
-question_refused files answer fault Answers text status is holds said ends =
-    let Holds : Result Conclusion CheckFault → Type 0 = λ a. IsVerdict Lenient files a in
-    let Said : Result Conclusion CheckFault → Type 0 = λ a. Tells files a text in
-    let Ends : Result Conclusion CheckFault → Type 0 = λ a. IfSome (verdict_of_answer a) (λ verdict. status ≡ status_of verdict) in
-    inl (refused_at files fault text status (subst Holds is holds) (subst Said is said) (subst Ends is ends))
-
--- ---- a file with each complete proof written anew
-
-pub asked_all : (wanted : Form) (files : List PlainFile) (number : ℕ)
-    (statements : List PlainStatement) (fault : AskFault) (text : List ℕ) (status : ℕ)
-    → IsAllSaveFault wanted files statements number fault
-    → IsAskReply fault (name_of files number) text status
-    → IsAllSavedReply wanted files number statements text status
-asked_all wanted files number statements ask.F3 text status h reply = inr (inl (h, reply))
-asked_all wanted files number statements ask.Memory text status h reply = absurd reply
-asked_all wanted files number statements _ text status h reply = absurd h
-
--- ---- a file with shorter proofs
-
-pub asked_shorter : (duplicates : Bool) (files : List PlainFile) (number : ℕ)
-    (statements : List PlainStatement) (fault : AskFault) (text : List ℕ) (status : ℕ)
-    → IsAllShorterFault Lenient duplicates files statements number fault
-    → IsAskReply fault (name_of files number) text status
-    → IsAllShortenedReply duplicates files number statements text status
-asked_shorter duplicates files number statements ask.F3 text status h reply = inl (h, reply)
-asked_shorter duplicates files number statements ask.Memory text status h reply = absurd reply
-asked_shorter duplicates files number statements _ text status h reply = absurd h
-
--- ---- the list of shorter proofs
-
-shorter_refused : (profile : Profile) (files : List PlainFile) (fault : CheckFault)
-    (text : List ℕ) (status : ℕ)
+refused_at : (profile : Profile) (files : List PlainFile) (fault : CheckFault) (text : List ℕ)
+    (status : ℕ)
     → ((verdict : Verdict) → verdict_of_fault fault ≡ Some verdict
     → HasVerdict profile files verdict)
     → MatchOption (verdict_of_fault fault) ⊥ (λ verdict. text ≡ text_of files verdict)
     → IfSome (verdict_of_fault fault) (λ verdict. status ≡ status_of verdict)
-    → IsShorterReply profile files text status
-shorter_refused profile files (fault.Load rule) text status holds said ends =
-    (Load rule, holds (Load rule) refl, ends, inl (tt, said))
-shorter_refused profile files (fault.Refused r) text status holds said ends =
-    (Refused (plain_refusal r), holds (Refused (plain_refusal r)) refl, ends, inl (tt, said))
-shorter_refused profile files fault.Memory text status holds said ends = absurd said
+    → IsRefused profile files text status
+refused_at profile files (fault.Load rule) text status holds said ends = record {
+  verdict = Load rule;
+  holds = holds (Load rule) refl;
+  refuses = tt;
+  said = said;
+  ends = ends;
+}
+refused_at profile files (fault.Refused r) text status holds said ends = record {
+  verdict = Refused (plain_refusal r);
+  holds = holds (Refused (plain_refusal r)) refl;
+  refuses = tt;
+  said = said;
+  ends = ends;
+}
+refused_at profile files fault.Memory text status holds said ends = absurd said
 
-pub no_shorter_told : (profile : Profile) (files : List PlainFile)
-    (answer : Result Conclusion CheckFault) (fault : CheckFault) (text : List ℕ) (status : ℕ)
+pub question_refused : (profile : Profile) (files : List PlainFile)
+    (answer : Result Conclusion CheckFault) (fault : CheckFault)
+    (Answers : List PlainStatement → List ℕ → ℕ → Type 0) (text : List ℕ) (status : ℕ)
     → answer ≡ Err fault → IsVerdict profile files answer → Tells files answer text
     → IfSome (verdict_of_answer answer) (λ verdict. status ≡ status_of verdict)
-    → IsShorterReply profile files text status
-no_shorter_told profile files answer fault text status is holds said ends =
+    → IsQuestionReply profile files Answers text status
+question_refused profile files answer fault Answers text status is holds said ends =
     let Holds : Result Conclusion CheckFault → Type 0 = λ a. IsVerdict profile files a in
     let Said : Result Conclusion CheckFault → Type 0 = λ a. Tells files a text in
     let Ends : Result Conclusion CheckFault → Type 0 =
     λ a. IfSome (verdict_of_answer a) (λ verdict. status ≡ status_of verdict) in
-    shorter_refused profile files fault text status (subst Holds is holds) (subst Said is said)
-    (subst Ends is ends)
-
-pub all_shorter_told : (profile : Profile) (files : List PlainFile)
-    (answer : Result Conclusion CheckFault) (c : Conclusion) (text : List ℕ) (status : ℕ)
-    → answer ≡ Ok c → IsVerdict profile files answer → KeepsFiles files c → c.profile ≡ profile
-    → ((statements : List PlainStatement) → Reads c.files statements None
-    → (lines : List ShorterLine) × AreShorterLines c.profile c.files statements lines
-    × (text ≡ shorter_text statements lines))
-    → IfSome (verdict_of_answer answer) (λ verdict. status ≡ status_of verdict)
-    → IsShorterReply profile files text status
-all_shorter_told profile files answer c text status is holds same under told ends =
-    let verdict : verdict_of_answer answer ≡ Some (verdict_of_conclusion c) =
-    ap verdict_of_answer is in
-    let has = holds (verdict_of_conclusion c) verdict in
-    let found = accepted_with profile files c c.incomplete has in
-    let reads = subst (λ (fs : List PlainFile). Reads fs found.0 None) (sym same) found.1.reads in
-    let (lines, are, said) = told found.0 reads in (
-      verdict_of_conclusion c,
-      has,
-      subst (λ (o : Option Verdict). IfSome o (λ v. status ≡ status_of v)) verdict ends,
-      inr (
-        found.0,
-        found.1,
-        lines,
-        subst (λ (p : Profile).
-            AreShorterLines p files found.0 lines) under
-            (subst (λ (fs : List PlainFile). AreShorterLines c.profile fs found.0 lines) same are),
-        said,
-      ),
-    )
-
--- ---- what each theorem rests on
-
-all_axioms_refused : (profile : Profile) (files : List PlainFile) (fault : CheckFault) (text : List ℕ) (status : ℕ)
-    → ((verdict : Verdict) → verdict_of_fault fault ≡ Some verdict → HasVerdict profile files verdict)
-    → MatchOption (verdict_of_fault fault) ⊥ (λ verdict. text ≡ text_of files verdict) → IfSome (verdict_of_fault fault) (λ verdict. status ≡ status_of verdict)
-    → IsAllAxiomsReply profile files text status
-all_axioms_refused profile files (fault.Load rule) text status holds said ends =
-    (Load rule, holds (Load rule) refl, ends, inl (tt, said))
-all_axioms_refused profile files (fault.Refused r) text status holds said ends =
-    (Refused (plain_refusal r), holds (Refused (plain_refusal r)) refl, ends, inl (tt, said))
-all_axioms_refused profile files fault.Memory text status holds said ends = absurd said
-
-pub no_axioms_told : (profile : Profile) (files : List PlainFile) (answer : Result Conclusion CheckFault) (fault : CheckFault) (text : List ℕ) (status : ℕ)
-    → answer ≡ Err fault → IsVerdict profile files answer → Tells files answer text → IfSome (verdict_of_answer answer) (λ verdict. status ≡ status_of verdict)
-    → IsAllAxiomsReply profile files text status
-no_axioms_told profile files answer fault text status is holds said ends =
-    let Holds : Result Conclusion CheckFault → Type 0 = λ a. IsVerdict profile files a in
-    let Said : Result Conclusion CheckFault → Type 0 = λ a. Tells files a text in
-    let Ends : Result Conclusion CheckFault → Type 0 = λ a. IfSome (verdict_of_answer a) (λ verdict. status ≡ status_of verdict) in
-    all_axioms_refused profile files fault text status (subst Holds is holds) (subst Said is said) (subst Ends is ends)
-
-pub all_axioms_told : (profile : Profile) (files : List PlainFile) (answer : Result Conclusion CheckFault) (c : Conclusion) (text : List ℕ) (status : ℕ)
-    → answer ≡ Ok c → IsVerdict profile files answer → KeepsFiles files c
-    → ((statements : List PlainStatement) → Reads c.files statements None → (lines : List ReportLine) × AreReportLines statements lines × (text ≡ lines_text lines))
-    → IfSome (verdict_of_answer answer) (λ verdict. status ≡ status_of verdict)
-    → IsAllAxiomsReply profile files text status
-all_axioms_told profile files answer c text status is holds same told ends =
-    let verdict : verdict_of_answer answer ≡ Some (verdict_of_conclusion c) = ap verdict_of_answer is in
-    let has = holds (verdict_of_conclusion c) verdict in
-    let found = accepted_with profile files c c.incomplete has in
-    let (lines, are, said) = told found.0 (subst (λ (fs : List PlainFile). Reads fs found.0 None) (sym same) found.1.reads) in (
-      verdict_of_conclusion c,
-      has,
-      subst (λ (o : Option Verdict). IfSome o (λ v. status ≡ status_of v)) verdict ends,
-      inr (found.0, found.1, lines, are, said),
-    )
+    inl (refused_at profile files fault text status (subst Holds is holds) (subst Said is said)
+    (subst Ends is ends))

@@ -3,7 +3,9 @@ use Rattle.std.proofs.Common.{◌≡◌, ℕ, ◌+◌, List, [], ◌∷◌, ◌+
 use Rattle.std.proofs.Common.{Option, Some, None, inl, inr, refl, sym, ap, subst, ◌∙◌, append-nil}
 use Rattle.std.specs.List.{AllZip}
 use Rattle.mm_base.proofs.Lists.{zip_length}
-use Rattle.mm_frame.specs.Sentence.{Sentence}
+use Rattle.mm_base.specs.Statement.{plain_statement}
+use Rattle.mm_text.specs.Files.{PlainFile}
+use Rattle.mm_frame.specs.Sentence.{Sentence, sentence_of}
 use Rattle.mm_step.specs.declared.fault.ProofRule.{ProofRule}
 use Rattle.mm_listing.specs.declared.halt.Halt.{Halt}
 use Rattle.mm_listing.specs.declared.lines.Line.{Line}
@@ -26,7 +28,9 @@ use Rattle.mm_proof.proofs.ProofVerdicts.PassedMoves.{prove_at_end}
 use Rattle.mm_check.specs.Alone.{AreStepsBefore}
 use Rattle.mm_facts.specs.Explained.{judged_tokens}
 use Rattle.mm_facts.specs.Explained.{IsTokensFault}
-use Rattle.mm_explain.specs.Mirror.Reached.{AreTried, tried_as}
+use Rattle.mm_explain.specs.declared.read_to.Reached.{Reached}
+use Rattle.mm_explain.specs.Mirror.Reached.{AreTried, HasReached, tried_as}
+use Rattle.mm_explain.proofs.LoneProofs.LoneTheorems.{reached_number}
 use Rattle.mm_render.specs.Shown.{IsListingText, listing_text}
 use Rattle.mm_explain.proofs.LoneProofs.TriedTokens.{judged_where, moves_fault, moves_tried, SayJudged}
 
@@ -224,3 +228,12 @@ module _ (st : List Sentence) (id : ℕ) (tokens : List (List ℕ)) (steps : Rea
       subst (λ (c : Bool). IsListingText (take index st) s (judged_where c tokens) text) is
       (halt_listed st index s tokens (said index s number).1 steps.prefix halt (sym prefix)
       (judged index s number) (there index s number) none text laid)
+
+-- ---- the theorem that was reached
+
+-- it is the `$p` with the number
+pub reached_proof : (files : List PlainFile) (r : Reached)
+    → (label : List ℕ) × HasReached files label r
+    → (index : ℕ) × (s : Sentence) × IsProofNumber r.book.statements r.id.0 index s
+reached_proof files r (label, h) =
+    (length h.before, sentence_of (plain_statement r.statement), reached_number files label r h)

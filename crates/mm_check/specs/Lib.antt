@@ -1,3 +1,4 @@
 pub mod Reply
+pub mod Asked
 pub mod Alike
 pub mod Alone

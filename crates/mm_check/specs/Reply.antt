@@ -3,7 +3,6 @@ use Rattle.std.specs.Prelude.{◌≡◌, ℕ, ◌<◌, List, [], ◌∷◌, ◌+
 use Rattle.std.specs.Prelude.{Bool, true, false, None}
 use Rattle.std.specs.Prelude.{◌⊎◌, codes}
 use Rattle.std.specs.Io.KnownBytes.{Appends}
-use Rattle.mm_text.specs.declared.fault.LoadRule.TheVariants.{F3}
 use Rattle.mm_base.specs.Statement.{PlainStatement}
 use Rattle.mm_text.specs.Files.{PlainFile}
 use Rattle.mm_text.specs.Device.{AppendsBeginning}
@@ -43,10 +42,10 @@ use Rattle.mm_render.specs.Shown.{ShowsProof, IsListingText}
 use Rattle.mm_render.specs.ShownUses.{ShowsUses}
 use Rattle.mm_verdict.specs.declared.form.Form.{Form}
 use Rattle.mm_verdict.specs.declared.form.Form.TheVariants as form
-use Rattle.mm_render.specs.Forms.{IsNormalOf, IsPackedOf, IsSmallOf, IsNormalFault}
+use Rattle.mm_render.specs.Forms.{IsNormalOf, IsPackedOf, IsSmallOf}
 use Rattle.mm_render.specs.Compared.{IsCompared}
 use Rattle.mm_rules.specs.Compared.{IsSameFault}
-use Rattle.mm_render.specs.Saved.{IsSaved, FitsSaved, IsSaveFault}
+use Rattle.mm_render.specs.Saved.{IsSaved, FitsSaved, IsFormFault, IsSaveFault}
 use Rattle.mm_verdict.specs.Stated.{IsStatementFault, TellsStatement}
 use Rattle.mm_save.specs.AllSaved.{IsAllSaved, IsFirstTooLong, IsAllSaveFault}
 use Rattle.mm_minimize.specs.AllShorter.{IsAllShortened, IsAllShorterFault, ShorterLine}
@@ -100,10 +99,11 @@ IsRefusal (Refused refusal) = Unit {0}
 IsRefusal (Incomplete labels) = ⊥
 IsRefusal (Yes statements proofs) = ⊥
 
--- The files are refused, and this is the text and the status of the refusal.
-pub record IsRefused (files : List PlainFile) (text : List ℕ) (status : ℕ) : Type 0 where
+-- The files are refused in the profile, and this is the text and the status of the refusal.
+pub record IsRefused (profile : Profile) (files : List PlainFile) (text : List ℕ) (status : ℕ)
+    : Type 0 where
   pub verdict : Verdict
-  pub holds : HasVerdict Lenient files verdict
+  pub holds : HasVerdict profile files verdict
   pub refuses : IsRefusal verdict
   pub said : text ≡ text_of files verdict
   pub ends : status ≡ status_of verdict
@@ -128,61 +128,35 @@ IsAxiomsReply label statements text status =
     × (text ≡ report_text (labels_of statements) axioms unproved)
     × (status ≡ report_status unproved))
 
--- the reply to the question who uses the assertion with a label, or for all that rest on it: a line
--- for each
-abbrev pub IsUsersReply : (all : Bool) → (label : List ℕ) → List PlainStatement → List ℕ → ℕ
-    → Type 0
-IsUsersReply all label statements text status =
-    ((fault : AskFault) × IsAssertionFault statements label fault
-    × IsAskReply fault label text status)
-    ⊎ ((users : List ℕ) × AreUsers all statements label users
-    × (text ≡ lines_of (labels_at (labels_of statements) users)) × (status ≡ 0))
+-- The reply to a question about a label that a text answers: the text, or why there is none.
+abbrev pub IsTextReply : (IsText : List ℕ → Type 0) → (IsFault : AskFault → Type 0)
+    → (label : List ℕ) → List ℕ → ℕ → Type 0
+IsTextReply IsText IsFault label text status =
+    ((fault : AskFault) × IsFault fault × IsAskReply fault label text status)
+    ⊎ (IsText text × (status ≡ 0))
 
--- the reply to the question what stands at a label
-abbrev pub IsStatementReply : List PlainFile → (label : List ℕ) → List PlainStatement → List ℕ → ℕ
-    → Type 0
-IsStatementReply files label statements text status =
-    ((fault : AskFault) × IsStatementFault statements label fault
-    × IsAskReply fault label text status)
-    ⊎ (TellsStatement files statements label text × (status ≡ 0))
+-- a line for each user of the assertion with a label, or for all that rest on it
+abbrev pub ListsUsers : (all : Bool) → List PlainStatement → (label : List ℕ) → List ℕ → Type 0
+ListsUsers all statements label text =
+    (users : List ℕ) × AreUsers all statements label users
+    × (text ≡ lines_of (labels_at (labels_of statements) users))
 
--- the reply to the question how the theorem with a label is proved
-abbrev pub IsShowReply : List ℕ → List PlainStatement → List ℕ → ℕ → Type 0
-IsShowReply label statements text status =
-    ((fault : AskFault) × IsAskFault statements label fault × IsAskReply fault label text status)
-    ⊎ (ShowsProof statements label text × (status ≡ 0))
+-- the proof of the theorem with a label in a form; or the bytes of its whole file with that proof
+abbrev pub IsFormText : (whole : Bool) → Form → List PlainFile → List PlainStatement
+    → (label : List ℕ) → List ℕ → Type 0
+IsFormText true wanted files statements label text =
+    (number : ℕ) × IsSaved wanted files statements label number text
+    × FitsSaved files number text
+IsFormText false form.Normal files statements label text = IsNormalOf statements label text
+IsFormText false form.Packed files statements label text = IsPackedOf statements label text
+IsFormText false form.Small files statements label text = IsSmallOf statements label text
 
--- the reply to the question what each step of the proof of the theorem with a label uses; of the
--- essential steps alone, if these are asked for
-abbrev pub IsUsesReply : (essential : Bool) → List ℕ → List PlainStatement → List ℕ → ℕ → Type 0
-IsUsesReply essential label statements text status =
-    ((fault : AskFault) × IsAskFault statements label fault × IsAskReply fault label text status)
-    ⊎ (ShowsUses essential statements label text × (status ≡ 0))
-
--- the reply to the question for the normal proof of the theorem with a label
-abbrev pub IsNormalReply : List ℕ → List PlainStatement → List ℕ → ℕ → Type 0
-IsNormalReply label statements text status =
-    ((fault : AskFault) × IsNormalFault statements label fault × IsAskReply fault label text status)
-    ⊎ (IsNormalOf statements label text × (status ≡ 0))
-
--- the reply to the question for the packed proof of the theorem with a label
-abbrev pub IsPackedReply : List ℕ → List PlainStatement → List ℕ → ℕ → Type 0
-IsPackedReply label statements text status =
-    ((fault : AskFault) × IsAskFault statements label fault × IsAskReply fault label text status)
-    ⊎ (IsPackedOf statements label text × (status ≡ 0))
-
--- the reply to the question for the small proof of the theorem with a label
-abbrev pub IsSmallReply : List ℕ → List PlainStatement → List ℕ → ℕ → Type 0
-IsSmallReply label statements text status =
-    ((fault : AskFault) × IsAskFault statements label fault × IsAskReply fault label text status)
-    ⊎ (IsSmallOf statements label text × (status ≡ 0))
-
--- the reply to the question for a shorter proof of the theorem with a label: its small proof, or
--- that of a shorter tree
-abbrev pub IsMinimizedReply : List PlainFile → List ℕ → List PlainStatement → List ℕ → ℕ → Type 0
-IsMinimizedReply files label statements text status =
-    ((fault : AskFault) × IsAskFault statements label fault × IsAskReply fault label text status)
-    ⊎ (IsMinimized Lenient files statements label text × (status ≡ 0))
+-- why there is none
+abbrev pub IsFormTextFault : (whole : Bool) → Form → List PlainFile → List PlainStatement
+    → (label : List ℕ) → AskFault → Type 0
+IsFormTextFault true wanted files statements label fault =
+    IsSaveFault wanted files statements label fault
+IsFormTextFault false wanted files statements label fault = IsFormFault wanted statements label fault
 
 -- the line and the status that tell whether two proofs are the same
 abbrev pub same_text : Bool → List ℕ
@@ -195,65 +169,50 @@ same_status false = 1
 
 -- the reply to the question whether a proof's text is the same proof as that of the theorem with a
 -- label
-abbrev pub IsSameReply : (label proof : List ℕ) → List PlainStatement → List ℕ → ℕ → Type 0
-IsSameReply label proof statements text status =
-    ((fault : AskFault) × IsSameFault Lenient statements label proof fault
+abbrev pub IsSameReply : Profile → (label proof : List ℕ) → List PlainStatement → List ℕ → ℕ
+    → Type 0
+IsSameReply profile label proof statements text status =
+    ((fault : AskFault) × IsSameFault profile statements label proof fault
     × IsAskReply fault label text status)
-    ⊎ ((same : Bool) × IsCompared Lenient statements label proof same
+    ⊎ ((same : Bool) × IsCompared profile statements label proof same
     × (text ≡ same_text same) × (status ≡ same_status same))
 
--- the reply to the question for the file in which the theorem with a label stands, with its proof in a
--- form: the bytes of the file, and nothing else
-abbrev pub IsSavedReply : Form → List PlainFile → List ℕ → List PlainStatement → List ℕ → ℕ → Type 0
-IsSavedReply form files label statements text status =
-    ((fault : AskFault) × IsSaveFault form files statements label fault
-    × IsAskReply fault label text status)
-    ⊎ ((number : ℕ) × IsSaved form files statements label number text
-    × FitsSaved files number text × (status ≡ 0))
-
--- the reply to the question for the proof of the theorem with a label in a form, or for its whole file
--- with that proof
-abbrev pub IsFormReply : (whole : Bool) → Form → List PlainFile → List ℕ → List PlainStatement
-    → List ℕ → ℕ → Type 0
-IsFormReply true wanted files label statements text status =
-    IsSavedReply wanted files label statements text status
-IsFormReply false form.Normal files label statements text status =
-    IsNormalReply label statements text status
-IsFormReply false form.Packed files label statements text status =
-    IsPackedReply label statements text status
-IsFormReply false form.Small files label statements text status =
-    IsSmallReply label statements text status
-
--- the reply to a question about the statement with a label
-abbrev pub IsAnswerTo : Question → List PlainFile → (label : List ℕ) → List PlainStatement → List ℕ
-    → ℕ → Type 0
-IsAnswerTo question.Axioms files label statements text status =
+-- the reply to a question about the statement with a label, in the profile that the files obey
+abbrev pub IsAnswerTo : Profile → Question → List PlainFile → (label : List ℕ)
+    → List PlainStatement → List ℕ → ℕ → Type 0
+IsAnswerTo profile question.Axioms files label statements text status =
     IsAxiomsReply label statements text status
-IsAnswerTo question.Show files label statements text status =
-    IsShowReply label statements text status
-IsAnswerTo (question.Uses essential) files label statements text status =
-    IsUsesReply essential label statements text status
-IsAnswerTo (question.Form wanted whole) files label statements text status =
-    IsFormReply whole wanted files label statements text status
-IsAnswerTo (question.Same proof) files label statements text status =
-    IsSameReply label proof.now statements text status
-IsAnswerTo (question.Users all) files label statements text status =
-    IsUsersReply all label statements text status
-IsAnswerTo question.Statement files label statements text status =
-    IsStatementReply files label statements text status
-IsAnswerTo question.Minimized files label statements text status =
-    IsMinimizedReply files label statements text status
+IsAnswerTo profile question.Show files label statements text status =
+    IsTextReply (ShowsProof statements label) (IsAskFault statements label) label text status
+IsAnswerTo profile (question.Uses essential) files label statements text status =
+    IsTextReply (ShowsUses essential statements label) (IsAskFault statements label) label text
+    status
+IsAnswerTo profile (question.Form wanted whole) files label statements text status =
+    IsTextReply (IsFormText whole wanted files statements label)
+    (IsFormTextFault whole wanted files statements label) label text status
+IsAnswerTo profile (question.Same proof) files label statements text status =
+    IsSameReply profile label proof.now statements text status
+IsAnswerTo profile (question.Users all) files label statements text status =
+    IsTextReply (ListsUsers all statements label) (IsAssertionFault statements label) label text
+    status
+IsAnswerTo profile question.Statement files label statements text status =
+    IsTextReply (TellsStatement files statements label) (IsStatementFault statements label) label
+    text status
+IsAnswerTo profile question.Minimized files label statements text status =
+    IsTextReply (IsMinimized profile files statements label) (IsAskFault statements label) label
+    text status
 
 -- the reply to the question for the file with a number, in which each proof is replaced that became
 -- shorter: the bytes of the file, and nothing else; or the name of the file, where the files would
 -- have too many bytes
-abbrev pub IsAllShortenedReply : (duplicates : Bool) → List PlainFile → (number : ℕ)
+abbrev pub IsAllShortenedReply : Profile → (duplicates : Bool) → List PlainFile → (number : ℕ)
     → List PlainStatement → List ℕ → ℕ → Type 0
-IsAllShortenedReply duplicates files number statements text status =
-    (IsAllShorterFault Lenient duplicates files statements number ask.F3
-    × IsAskReply ask.F3 (name_of files number) text status)
-    ⊎ (IsAllShortened Lenient duplicates files statements number text
-    × FitsSaved files number text × (status ≡ 0))
+IsAllShortenedReply profile duplicates files number statements text status =
+    IsTextReply
+    (λ new. IsAllShortened profile duplicates files statements number new
+    × FitsSaved files number new)
+    (IsAllShorterFault profile duplicates files statements number) (name_of files number) text
+    status
 
 -- the reply to the question for the file with a number, with each complete proof in a form: the bytes
 -- of the file, and nothing else; or the label of the first theorem whose proof is too long, or the
@@ -263,19 +222,36 @@ abbrev pub IsAllSavedReply : Form → List PlainFile → (number : ℕ) → List
 IsAllSavedReply wanted files number statements text status =
     ((label : List ℕ) × (wanted ≡ form.Normal) × IsFirstTooLong statements number label
     × IsAskReply (ask.Rule L2) label text status)
-    ⊎ ((IsAllSaveFault wanted files statements number ask.F3
-    × IsAskReply ask.F3 (name_of files number) text status)
-    ⊎ (IsAllSaved wanted files statements number text × FitsSaved files number text
-    × (status ≡ 0)))
+    ⊎ IsTextReply
+    (λ new. IsAllSaved wanted files statements number new × FitsSaved files number new)
+    (IsAllSaveFault wanted files statements number) (name_of files number) text status
 
--- The reply to a question about the database: the refusal, if it is refused, else the answer over
--- its statements.
-abbrev pub IsQuestionReply : List PlainFile → (List PlainStatement → List ℕ → ℕ → Type 0) → List ℕ
-    → ℕ → Type 0
-IsQuestionReply files Answers text status =
-    IsRefused files text status
-    ⊎ ((statements : List PlainStatement) × AreAccepted Lenient files statements
+-- The reply to a question about the database in the profile: the refusal, if it is refused, else the
+-- answer over its statements.
+abbrev pub IsQuestionReply : Profile → List PlainFile
+    → (List PlainStatement → List ℕ → ℕ → Type 0) → List ℕ → ℕ → Type 0
+IsQuestionReply profile files Answers text status =
+    IsRefused profile files text status
+    ⊎ ((statements : List PlainStatement) × AreAccepted profile files statements
     × Answers statements text status)
+
+-- The answer lists this of all statements; its status is that of the verdict.
+abbrev pub IsListAnswer : (Lists : List PlainStatement → List ℕ → Type 0) → Profile
+    → List PlainFile → List PlainStatement → List ℕ → ℕ → Type 0
+IsListAnswer Lists profile files statements text status =
+    Lists statements text
+    × (verdict : Verdict) × HasVerdict profile files verdict × (status ≡ status_of verdict)
+
+-- the lines of all theorems on what they rest on
+abbrev pub ListsAxioms : List PlainStatement → List ℕ → Type 0
+ListsAxioms statements text =
+    (lines : List ReportLine) × AreReportLines statements lines × (text ≡ lines_text lines)
+
+-- a line for each proof that is found to become shorter, and the sums
+abbrev pub ListsShorter : Profile → List PlainFile → List PlainStatement → List ℕ → Type 0
+ListsShorter profile files statements text =
+    (lines : List ShorterLine) × AreShorterLines profile files statements lines
+    × (text ≡ shorter_text statements lines)
 
 -- ---- one theorem alone
 
@@ -357,34 +333,16 @@ AsksHanded files (File form number) = number < length files
 AsksHanded files (Shorter number duplicates) = number < length files
 AsksHanded files command = Unit {0}
 
--- the reply to the question what each theorem rests on, in the profile: where the files are refused,
--- the text of the refusal, else the lines of all theorems; and the status of the verdict
-abbrev pub IsAllAxiomsReply : Profile → List PlainFile → List ℕ → ℕ → Type 0
-IsAllAxiomsReply profile files text status =
-    (verdict : Verdict) × HasVerdict profile files verdict × (status ≡ status_of verdict)
-    × ((IsRefusal verdict × (text ≡ text_of files verdict))
-    ⊎ ((statements : List PlainStatement) × AreAccepted profile files statements
-    × (lines : List ReportLine) × AreReportLines statements lines
-    × (text ≡ lines_text lines)))
-
--- the reply to the question which proofs become shorter, in the profile: where the files are refused,
--- the text of the refusal, else a line for each such proof that is found, and the sums; and the status
--- of the verdict
-abbrev pub IsShorterReply : Profile → List PlainFile → List ℕ → ℕ → Type 0
-IsShorterReply profile files text status =
-    (verdict : Verdict) × HasVerdict profile files verdict × (status ≡ status_of verdict)
-    × ((IsRefusal verdict × (text ≡ text_of files verdict))
-    ⊎ ((statements : List PlainStatement) × AreAccepted profile files statements
-    × (lines : List ShorterLine) × AreShorterLines profile files statements lines
-    × (text ≡ shorter_text statements lines)))
-
 -- the reply to a question about the whole database, in the profile
 abbrev pub IsWholeReply : WholeQuestion → Profile → List PlainFile → List ℕ → ℕ → Type 0
 IsWholeReply Check profile files text status = IsReply profile files text status
 IsWholeReply Faults profile files text status = IsFaultsReply profile files text status
 IsWholeReply Why profile files text status = IsWhyReply profile files text status
-IsWholeReply AllAxioms profile files text status = IsAllAxiomsReply profile files text status
-IsWholeReply AllShorter profile files text status = IsShorterReply profile files text status
+IsWholeReply AllAxioms profile files text status =
+    IsQuestionReply profile files (IsListAnswer ListsAxioms profile files) text status
+IsWholeReply AllShorter profile files text status =
+    IsQuestionReply profile files (IsListAnswer (ListsShorter profile files) profile files) text
+    status
 
 -- This is the text and the status of the reply to a command. Questions about a theorem, and those for
 -- a file, are answered where the lenient profile accepts the files; those about a theorem alone where
@@ -392,12 +350,12 @@ IsWholeReply AllShorter profile files text status = IsShorterReply profile files
 abbrev pub IsReplyTo : List PlainFile → Command → List ℕ → ℕ → Type 0
 IsReplyTo files (Whole profile asked) text status = IsWholeReply asked profile files text status
 IsReplyTo files (About label asked) text status =
-    IsQuestionReply files (IsAnswerTo asked files label.now) text status
+    IsQuestionReply Lenient files (IsAnswerTo Lenient asked files label.now) text status
 IsReplyTo files (Lone label asked) text status = IsLoneReply asked files label.now text status
 IsReplyTo files (File wanted number) text status =
-    IsQuestionReply files (IsAllSavedReply wanted files number) text status
+    IsQuestionReply Lenient files (IsAllSavedReply wanted files number) text status
 IsReplyTo files (Shorter number duplicates) text status =
-    IsQuestionReply files (IsAllShortenedReply duplicates files number) text status
+    IsQuestionReply Lenient files (IsAllShortenedReply Lenient duplicates files number) text status
 
 -- The reply's text was put after what the writer held, where that is known.
 abbrev pub Writes : List PlainFile → Command → ℕ → Option (List ℕ) → Option (List ℕ) → Type 0

@@ -8,11 +8,10 @@ ghost use Rattle.mm_check.specs.Reply.{AsksHanded, IsReplyTo, Writes};
 ghost use Rattle.mm_check.specs.Reply.{WritesBeginningOf};
 ghost use Rattle.mm_check.specs.declared.command.RunFault.TheVariants.{Memory};
 
+use crate::accepted::{Asked, checked_reply};
 use crate::alone::lone_reply;
-use crate::question::{
-    LoneQuestion, Question, WholeQuestion, all_saved_reply, question_reply, whole_reply,
-};
-use crate::shorter_reply::shorter_file_reply;
+use crate::question::{LoneQuestion, Question, WholeQuestion};
+use crate::whole::{all_saved_reply, whole_reply};
 use mm_base::{File, Seed};
 use mm_minimize::Wanted;
 use mm_rules::Status;
@@ -94,15 +93,21 @@ pub fn reply_to<W: Watch>(
         Command::Whole { profile, question } => {
             whole_reply(alloc, seed, files, *profile, *question, watch)
         }
-        Command::About { label, question } => question_reply(alloc, seed, files, question, label),
+        Command::About { label, question } => {
+            let asked = Asked::About {
+                label: *label,
+                question: *question,
+            };
+            checked_reply(alloc, seed, Profile::Lenient, files, asked, watch)
+        }
         Command::Lone { label, question } => lone_reply(alloc, seed, files, label, question),
         Command::File { form, file } => all_saved_reply(alloc, seed, files, *form, *file),
         Command::Shorter { file, duplicates } => {
-            let wanted = Wanted {
+            let asked = Asked::File(Wanted {
                 number: *file,
                 duplicates: *duplicates,
-            };
-            shorter_file_reply(alloc, seed, files, wanted, watch)
+            });
+            checked_reply(alloc, seed, Profile::Lenient, files, asked, watch)
         }
     }
 }

@@ -1,17 +1,18 @@
 //! The commands and their replies: the front of the library.
 //! It answers `run` and `reply_to`: files and a command in, the text and the status of the reply
 //! out. It stands on all crates that answer questions: verdict, axioms, texts, explanations,
-//! saving, shorter proofs. Begin with `command`, then `question` (of databases in which nothing is
-//! at fault) and `alone` (of one theorem, whatever its proof). What a reply is stands in
-//! `specs/Reply.antt`.
+//! saving, shorter proofs. Begin with `command`, then `accepted` and `question` (of databases in
+//! which nothing is at fault), `whole` (of all faults, and of all proofs of a file) and `alone` (of
+//! one theorem, whatever its proof). What a reply is stands in `specs/Reply.antt`.
 #![tactic(auto)]
 
+mod accepted;
 mod alike;
 mod alone;
 mod checked_prefix;
 mod command;
 mod question;
-mod shorter_reply;
+mod whole;
 
 pub use alike::alike_files_have_one_reply;
 pub use command::{Command, RunFault, reply_to, run};

@@ -1,47 +1,32 @@
-//! Whole replies: to `check`, to `faults`, and to questions about a theorem.
+//! The questions, and the answers to those about a label, over a database in which nothing is at
+//! fault.
 
-ghost use Rattle.std.specs.Prelude.{◌≡◌, ◌<◌, ◌++◌, ◌∷◌, List, map, length, OnOk, IfOk, IfErr};
-ghost use Rattle.std.specs.Prelude.{None, codes};
+ghost use Rattle.std.specs.Prelude.{◌≡◌, ◌<◌, ◌++◌, List, map, length, OnOk, IfOk, IfErr};
+ghost use Rattle.std.specs.Prelude.{None, codes, true, MatchResult};
 ghost use Rattle.std.specs.List.{AllByRecursion};
 ghost use Rattle.mm_base.specs.Statement.{PlainStatement};
-ghost use Rattle.mm_text.specs.Files.{plain_file};
 ghost use Rattle.mm_text.specs.Reading.{Reads};
-ghost use Rattle.mm_step.specs.declared.profile.Profile.TheVariants.{Lenient};
-ghost use Rattle.mm_rules.specs.Answer.{labels_at, IsVerdict, KeepsLabels, KeepsFiles};
-ghost use Rattle.mm_rules.specs.Answer.{plain_refusal, verdict_of_conclusion};
-ghost use Rattle.mm_verdict.specs.Faults.{AreAllFaults};
-ghost use Rattle.mm_rules.specs.Verdict.{HasVerdict, labels_of};
+ghost use Rattle.mm_rules.specs.Answer.{labels_at, KeepsLabels};
+ghost use Rattle.mm_rules.specs.Verdict.{labels_of};
 ghost use Rattle.mm_rules.specs.Status.{number_of};
-ghost use Rattle.mm_verdict.specs.Reply.{lines_of};
-ghost use Rattle.mm_check.specs.Reply.{IsReply, IsAxiomsReply, IsShowReply};
-ghost use Rattle.mm_check.specs.Reply.{IsFaultsReply, IsWhyReply};
-ghost use Rattle.mm_verdict.specs.Reply.{refusals_text, refusal_status};
-ghost use Rattle.mm_check.specs.Reply.{IsNormalReply, IsPackedReply, IsSavedReply, IsSameReply};
-ghost use Rattle.mm_check.specs.Reply.{IsSmallReply, IsAllSavedReply, IsAnswerTo, IsFormReply};
-ghost use Rattle.mm_check.specs.Reply.{IsWholeReply, same_text, same_status, IsQuestionReply};
+ghost use Rattle.mm_verdict.specs.Reply.{IsAskReply, lines_of};
+ghost use Rattle.mm_check.specs.Reply.{IsAxiomsReply, IsFormText, IsFormTextFault};
+ghost use Rattle.mm_check.specs.Reply.{IsSameReply, IsAnswerTo, ListsUsers};
+ghost use Rattle.mm_check.specs.Reply.{same_text, same_status};
 ghost use Rattle.mm_check.specs.Reply.{report_text as report_text_at};
-ghost use Rattle.mm_check.specs.Reply.{report_status as report_status_at, IsUsersReply};
-ghost use Rattle.mm_check.specs.Reply.{IsUsesReply, IsAllAxiomsReply, IsStatementReply};
-ghost use Rattle.mm_step.specs.declared.profile.Profile.{Profile};
+ghost use Rattle.mm_check.specs.Reply.{report_status as report_status_at};
+ghost use Rattle.mm_render.specs.Saved.{IsSaveFault};
 ghost use Rattle.mm_axioms.specs.Users.{AreUsers, IsAssertionFault};
 
-use crate::shorter_reply::{minimized_answer, shorter_reply};
-use mm_axioms::{Report, all_axioms_text, all_users, axioms, direct_users};
-use mm_base::{File, Seed};
-use mm_explain::{Unaccepted, explained};
+use mm_axioms::{Report, all_users, axioms, direct_users};
 use mm_frame::LabelId;
+use mm_minimize::minimized_by_library;
 use mm_render::{
-    SaveFault, is_same_proof, normal_form, packed_form, proof_listing, saved_file, small_form,
-    statement_text, uses_listing,
+    is_same_proof, normal_form, packed_form, proof_listing, saved_file, small_form, statement_text,
+    uses_listing,
 };
-use mm_rules::{AskFault, AskRule, CheckFault, Refusal, Rule, Status, name_of};
-use mm_save::saved_all;
-use mm_step::Profile;
-use mm_verdict::{
-    AllFaults, Checked, Form, Reply, Watch, accepted_reply, all_faults, ask_reply, check,
-    check_with, conclusion_status, fault_reply, first_status, push_label, push_labels,
-    push_refusals, verdict_reply,
-};
+use mm_rules::{AskFault, Status};
+use mm_verdict::{Checked, Form, Reply, ask_reply, push_label, push_labels};
 use std::alloc::{AllocError, Global};
 
 /// A question about the whole database.
@@ -155,79 +140,17 @@ fn axioms_answer(alloc: Global, checked: &Checked, label: &[u8]) -> Result<Reply
     }
 }
 
-/// The reply of a database in which nothing is at fault to the question how a theorem is proved.
-fn show_answer(alloc: Global, checked: &Checked, label: &[u8]) -> Result<Reply, AllocError>
-    ensures { IfOk result (λ reply. (statements : List PlainStatement)
-        → Reads checked.now.files statements None
-        → IsShowReply label.now statements reply.text.items (number_of reply.status)) }
-{
-    match proof_listing(alloc, checked, label) {
-        Ok(text) => Ok(Reply {
-            text,
-            status: Status::Done,
-        }),
-        Err(fault) => ask_reply(alloc, label, fault),
-    }
-}
-
-/// The reply of a database in which nothing is at fault to the question what each step of a proof
-/// uses.
-fn uses_answer(
+/// The reply that tells this text, or why there is none to the question about the label.
+pub(crate) fn text_reply(
     alloc: Global,
-    checked: &Checked,
     label: &[u8],
-    essential: bool,
+    answer: Result<Vec<u8>, AskFault>,
 ) -> Result<Reply, AllocError>
-    ensures { IfOk result (λ reply. (statements : List PlainStatement)
-        → Reads checked.now.files statements None
-        → IsUsesReply essential label.now statements reply.text.items (number_of reply.status)) }
+    ensures { IfOk result (λ reply. MatchResult answer
+        (λ text. (reply.text.items ≡ text.items) × (number_of reply.status ≡ 0))
+        (λ fault. IsAskReply fault label.now reply.text.items (number_of reply.status))) }
 {
-    match uses_listing(alloc, checked, label, essential) {
-        Ok(text) => Ok(Reply {
-            text,
-            status: Status::Done,
-        }),
-        Err(fault) => ask_reply(alloc, label, fault),
-    }
-}
-
-/// The reply of a database in which nothing is at fault to the question for a normal proof.
-fn normal_answer(alloc: Global, checked: &Checked, label: &[u8]) -> Result<Reply, AllocError>
-    ensures { IfOk result (λ reply. (statements : List PlainStatement)
-        → Reads checked.now.files statements None
-        → IsNormalReply label.now statements reply.text.items (number_of reply.status)) }
-{
-    match normal_form(alloc, checked, label) {
-        Ok(text) => Ok(Reply {
-            text,
-            status: Status::Done,
-        }),
-        Err(fault) => ask_reply(alloc, label, fault),
-    }
-}
-
-/// The reply of a database in which nothing is at fault to the question for a packed proof.
-fn packed_answer(alloc: Global, checked: &Checked, label: &[u8]) -> Result<Reply, AllocError>
-    ensures { IfOk result (λ reply. (statements : List PlainStatement)
-        → Reads checked.now.files statements None
-        → IsPackedReply label.now statements reply.text.items (number_of reply.status)) }
-{
-    match packed_form(alloc, checked, label) {
-        Ok(text) => Ok(Reply {
-            text,
-            status: Status::Done,
-        }),
-        Err(fault) => ask_reply(alloc, label, fault),
-    }
-}
-
-/// The reply of a database in which nothing is at fault to the question for a small proof.
-fn small_answer(alloc: Global, checked: &Checked, label: &[u8]) -> Result<Reply, AllocError>
-    ensures { IfOk result (λ reply. (statements : List PlainStatement)
-        → Reads checked.now.files statements None
-        → IsSmallReply label.now statements reply.text.items (number_of reply.status)) }
-{
-    match small_form(alloc, checked, label) {
+    match answer {
         Ok(text) => Ok(Reply {
             text,
             status: Status::Done,
@@ -262,10 +185,10 @@ fn same_answer(
     label: &[u8],
     proof: &[u8],
 ) -> Result<Reply, AllocError>
-    requires { checked.now.profile ≡ Lenient }
     ensures { IfOk result (λ reply. (statements : List PlainStatement)
         → Reads checked.now.files statements None
-        → IsSameReply label.now proof.now statements reply.text.items (number_of reply.status)) }
+        → IsSameReply checked.now.profile label.now proof.now statements reply.text.items
+        (number_of reply.status)) }
 {
     match is_same_proof(alloc, checked, label, proof) {
         Ok(same) => {
@@ -277,47 +200,44 @@ fn same_answer(
     }
 }
 
-/// The reply of a database in which nothing is at fault to the question for the bytes of a file
-/// with a proof in a form.
-fn saved_answer(
+/// The bytes of the file in which the theorem with a label stands, with its proof in a form.
+fn saved_text(
     alloc: Global,
     checked: &Checked,
     label: &[u8],
     form: Form,
-) -> Result<Reply, AllocError>
-    ensures { IfOk result (λ reply. (statements : List PlainStatement)
+) -> Result<Vec<u8>, AskFault>
+    ensures text { IfOk result (λ text. (statements : List PlainStatement)
         → Reads checked.now.files statements None
-        → IsSavedReply form checked.now.files label.now statements reply.text.items
-        (number_of reply.status)) }
+        → IsFormText true form checked.now.files statements label.now text.items) }
+    ensures fault { IfErr result (λ fault. (statements : List PlainStatement)
+        → Reads checked.now.files statements None
+        → IsSaveFault form checked.now.files statements label.now fault) }
 {
-    match saved_file(alloc, checked, label, form) {
-        Ok((_, text)) => Ok(Reply {
-            text,
-            status: Status::Done,
-        }),
-        Err(fault) => ask_reply(alloc, label, fault),
-    }
+    let saved = saved_file(alloc, checked, label, form)?;
+    Ok(saved.1)
 }
 
-/// The reply of a database in which nothing is at fault to the question for a proof in a form, or
-/// for the bytes of its file with it.
-fn form_answer(
+/// The proof of the theorem with a label in a form, or the bytes of its whole file with that proof.
+fn form_text(
     alloc: Global,
     checked: &Checked,
     label: &[u8],
     form: Form,
     whole: bool,
-) -> Result<Reply, AllocError>
-    ensures { IfOk result (λ reply. (statements : List PlainStatement)
+) -> Result<Vec<u8>, AskFault>
+    ensures text { IfOk result (λ text. (statements : List PlainStatement)
         → Reads checked.now.files statements None
-        → IsFormReply whole form checked.now.files label.now statements reply.text.items
-        (number_of reply.status)) }
+        → IsFormText whole form checked.now.files statements label.now text.items) }
+    ensures fault { IfErr result (λ fault. (statements : List PlainStatement)
+        → Reads checked.now.files statements None
+        → IsFormTextFault whole form checked.now.files statements label.now fault) }
 {
     match form {
-        _ if whole => saved_answer(alloc, checked, label, form),
-        Form::Normal => normal_answer(alloc, checked, label),
-        Form::Packed => packed_answer(alloc, checked, label),
-        Form::Small => small_answer(alloc, checked, label),
+        _ if whole => saved_text(alloc, checked, label, form),
+        Form::Normal => normal_form(alloc, checked, label),
+        Form::Packed => packed_form(alloc, checked, label),
+        Form::Small => small_form(alloc, checked, label),
     }
 }
 
@@ -344,291 +264,64 @@ fn users_of(
     }
 }
 
-/// The reply of a database in which nothing is at fault to the question who uses an assertion.
-fn users_answer(
+/// A line for each theorem that uses the assertion with a label, or for all that rest on it.
+fn users_text(
     alloc: Global,
     checked: &Checked,
     label: &[u8],
     all: bool,
-) -> Result<Reply, AllocError>
-    ensures { IfOk result (λ reply. (statements : List PlainStatement)
-        → Reads checked.now.files statements None → checked.now.labels ≡ labels_of statements
-        → IsUsersReply all label.now statements reply.text.items (number_of reply.status)) }
-{
-    match users_of(alloc, checked, label, all) {
-        Ok(users) => {
-            let mut text = Vec::new(alloc);
-            push_labels(&mut text, checked, &users)?;
-            Ok(Reply {
-                text,
-                status: Status::Done,
-            })
-        }
-        Err(fault) => ask_reply(alloc, label, fault),
-    }
-}
-
-/// The reply of a database in which nothing is at fault to the question what stands at a label.
-fn statement_answer(alloc: Global, checked: &Checked, label: &[u8]) -> Result<Reply, AllocError>
-    ensures { IfOk result (λ reply. (statements : List PlainStatement)
+) -> Result<Vec<u8>, AskFault>
+    requires { KeepsLabels checked.now.files checked.now }
+    ensures text { IfOk result (λ text. (statements : List PlainStatement)
         → Reads checked.now.files statements None
-        → IsStatementReply checked.now.files label.now statements reply.text.items
-        (number_of reply.status)) }
+        → ListsUsers all statements label.now text.items) }
+    ensures fault { IfErr result (λ fault. (statements : List PlainStatement)
+        → Reads checked.now.files statements None
+        → IsAssertionFault statements label.now fault) }
 {
-    match statement_text(alloc, checked, label) {
-        Ok(text) => Ok(Reply {
-            text,
-            status: Status::Done,
-        }),
-        Err(fault) => ask_reply(alloc, label, fault),
-    }
+    let users = users_of(alloc, checked, label, all)?;
+    let mut text = Vec::new(alloc);
+    push_labels(&mut text, checked, &users)?;
+    Ok(text)
 }
 
 /// The reply of a database in which nothing is at fault to a question about a label.
-fn answer_to(
+pub(crate) fn answer_to(
     alloc: Global,
     checked: &Checked,
     question: &Question,
     label: &[u8],
 ) -> Result<Reply, AllocError>
-    requires profile { checked.now.profile ≡ Lenient }
-    requires labels { KeepsLabels checked.now.files checked.now }
+    requires { KeepsLabels checked.now.files checked.now }
     ensures { IfOk result (λ reply. (statements : List PlainStatement)
         → Reads checked.now.files statements None
-        → IsAnswerTo question.now checked.now.files label.now statements reply.text.items
-        (number_of reply.status)) }
+        → IsAnswerTo checked.now.profile question.now checked.now.files label.now statements
+        reply.text.items (number_of reply.status)) }
 {
     match question {
         Question::Axioms => axioms_answer(alloc, checked, label),
-        Question::Show => show_answer(alloc, checked, label),
-        Question::Uses { essential } => uses_answer(alloc, checked, label, *essential),
-        Question::Form { form, whole } => form_answer(alloc, checked, label, *form, *whole),
+        Question::Show => text_reply(alloc, label, proof_listing(alloc, checked, label)),
+        Question::Uses { essential } => {
+            text_reply(
+                alloc,
+                label,
+                uses_listing(alloc, checked, label, *essential),
+            )
+        }
+        Question::Form { form, whole } => {
+            text_reply(
+                alloc,
+                label,
+                form_text(alloc, checked, label, *form, *whole),
+            )
+        }
         Question::Same(text) => same_answer(alloc, checked, label, text),
-        Question::Users { all } => users_answer(alloc, checked, label, *all),
-        Question::Statement => statement_answer(alloc, checked, label),
-        Question::Minimized => minimized_answer(alloc, checked, label),
-    }
-}
-
-/// The reply to `check` under a profile.
-fn check_reply(
-    alloc: Global,
-    seed: Seed,
-    profile: Profile,
-    files: &[File],
-) -> Result<Reply, AllocError>
-    ensures { IfOk result (λ reply.
-        IsReply profile (map plain_file files.now) reply.text.items (number_of reply.status)) }
-{
-    let answer = check_with(alloc, seed, profile, files);
-    let reply = verdict_reply(alloc, files, &answer);
-    drop(answer);
-    reply
-}
-
-/// The reply that tells all faults, of which there is at least one.
-fn refusals_reply(alloc: Global, files: &[File], refusals: &[Refusal]) -> Result<Reply, AllocError>
-    requires { 0 < length refusals.now }
-    ensures text { IfOk result (λ reply. reply.text.items
-        ≡ refusals_text (map plain_file files.now) (map plain_refusal refusals.now)) }
-    ensures status { IfOk result (λ reply. (first : Refusal) (others : List Refusal)
-        → refusals.now ≡ first ∷ others → number_of reply.status ≡ refusal_status first.rule) }
-{
-    let mut text = Vec::new(alloc);
-    push_refusals(&mut text, files, refusals)?;
-    let status = first_status(refusals);
-    Ok(Reply { text, status })
-}
-
-/// The reply to `faults` where these are all faults.
-fn faults_told(alloc: Global, files: &[File], faults: &AllFaults) -> Result<Reply, AllocError>
-    requires { (profile : Profile) × AreAllFaults profile (map plain_file files.now) faults.now }
-    ensures { IfOk result (λ reply. (profile : Profile)
-        → AreAllFaults profile (map plain_file files.now) faults.now
-        → IsFaultsReply profile (map plain_file files.now) reply.text.items
-        (number_of reply.status)) }
-{
-    match faults {
-        AllFaults::Load(rule) => fault_reply(alloc, files, &CheckFault::Load(*rule)),
-        AllFaults::Refused(refusals) => refusals_reply(alloc, files, refusals),
-        AllFaults::Memory => Err(AllocError),
-    }
-}
-
-/// The reply to `faults` where this is the answer of `all_faults`.
-fn faults_answer(
-    alloc: Global,
-    files: &[File],
-    answer: &Result<Checked, AllFaults>,
-) -> Result<Reply, AllocError>
-    requires { (profile : Profile)
-        × IfErr answer.now (AreAllFaults profile (map plain_file files.now)) }
-    ensures { IfOk result (λ reply. (profile : Profile)
-        → IfOk answer.now (λ checked. HasVerdict profile (map plain_file files.now)
-        (verdict_of_conclusion checked))
-        → IfErr answer.now (AreAllFaults profile (map plain_file files.now))
-        → IsFaultsReply profile (map plain_file files.now) reply.text.items
-        (number_of reply.status)) }
-{
-    match answer {
-        Ok(checked) => accepted_reply(alloc, files, checked),
-        Err(faults) => faults_told(alloc, files, faults),
-    }
-}
-
-/// The reply to `faults` under a profile.
-fn faults_reply(
-    alloc: Global,
-    seed: Seed,
-    profile: Profile,
-    files: &[File],
-) -> Result<Reply, AllocError>
-    ensures { IfOk result (λ reply. IsFaultsReply profile (map plain_file files.now)
-        reply.text.items (number_of reply.status)) }
-{
-    let answer = all_faults(alloc, seed, profile, files);
-    let reply = faults_answer(alloc, files, &answer);
-    drop(answer);
-    reply
-}
-
-/// The reply to `why` under a profile.
-fn why_reply(
-    alloc: Global,
-    seed: Seed,
-    profile: Profile,
-    files: &[File],
-) -> Result<Reply, AllocError>
-    ensures { IfOk result (λ reply. IsWhyReply profile (map plain_file files.now)
-        reply.text.items (number_of reply.status)) }
-{
-    match explained(alloc, seed, profile, files) {
-        Ok(checked) => accepted_reply(alloc, files, &checked),
-        Err(Unaccepted::Load(rule)) => fault_reply(alloc, files, &CheckFault::Load(rule)),
-        Err(Unaccepted::Refused { text, status }) => Ok(Reply { text, status }),
-        Err(Unaccepted::Memory) => Err(AllocError),
-    }
-}
-
-/// The reply to the question what each theorem rests on, where this is the answer of `check`.
-fn all_axioms_answer(
-    alloc: Global,
-    files: &[File],
-    answer: &Result<Checked, CheckFault>,
-) -> Result<Reply, AllocError>
-    requires labels { IfOk answer.now (KeepsLabels (map plain_file files.now)) }
-    requires files { IfOk answer.now (KeepsFiles (map plain_file files.now)) }
-    ensures { IfOk result (λ reply. (profile : Profile)
-        → IsVerdict profile (map plain_file files.now) answer.now
-        → IsAllAxiomsReply profile (map plain_file files.now) reply.text.items
-        (number_of reply.status)) }
-{
-    match answer {
-        Ok(checked) => Ok(Reply {
-            text: all_axioms_text(alloc, checked)?,
-            status: conclusion_status(checked),
-        }),
-        Err(_) => verdict_reply(alloc, files, answer),
-    }
-}
-
-/// The reply to the question what each theorem rests on, under a profile.
-fn all_axioms_reply(
-    alloc: Global,
-    seed: Seed,
-    profile: Profile,
-    files: &[File],
-) -> Result<Reply, AllocError>
-    ensures { IfOk result (λ reply. IsAllAxiomsReply profile (map plain_file files.now)
-        reply.text.items (number_of reply.status)) }
-{
-    let answer = check_with(alloc, seed, profile, files);
-    let reply = all_axioms_answer(alloc, files, &answer);
-    drop(answer);
-    reply
-}
-
-/// The reply to a question about the whole database under a profile.
-pub(crate) fn whole_reply<W: Watch>(
-    alloc: Global,
-    seed: Seed,
-    files: &[File],
-    profile: Profile,
-    question: WholeQuestion,
-    watch: &mut W,
-) -> Result<Reply, AllocError>
-    ensures { IfOk result (λ reply. IsWholeReply question profile (map plain_file files.now)
-        reply.text.items (number_of reply.status)) }
-{
-    match question {
-        WholeQuestion::Check => check_reply(alloc, seed, profile, files),
-        WholeQuestion::Faults => faults_reply(alloc, seed, profile, files),
-        WholeQuestion::Why => why_reply(alloc, seed, profile, files),
-        WholeQuestion::Axioms => all_axioms_reply(alloc, seed, profile, files),
-        WholeQuestion::Shorter => shorter_reply(alloc, seed, profile, files, watch),
-    }
-}
-
-/// The reply to a question about the theorem with a label, where this is the answer of `check`.
-fn answer_or_verdict(
-    alloc: Global,
-    files: &[File],
-    answer: &Result<Checked, CheckFault>,
-    question: &Question,
-    label: &[u8],
-) -> Result<Reply, AllocError>
-    requires verdict { IsVerdict Lenient (map plain_file files.now) answer.now }
-    requires labels { IfOk answer.now (KeepsLabels (map plain_file files.now)) }
-    requires files { IfOk answer.now (KeepsFiles (map plain_file files.now)) }
-    requires profile { IfOk answer.now (λ checked. checked.profile ≡ Lenient) }
-    ensures { IfOk result (λ reply. IsQuestionReply (map plain_file files.now)
-        (IsAnswerTo question.now (map plain_file files.now) label.now) reply.text.items
-        (number_of reply.status)) }
-{
-    match answer {
-        Ok(checked) => answer_to(alloc, checked, question, label),
-        Err(_) => verdict_reply(alloc, files, answer),
-    }
-}
-
-/// The reply to a question about the theorem with a label.
-pub(crate) fn question_reply(
-    alloc: Global,
-    seed: Seed,
-    files: &[File],
-    question: &Question,
-    label: &[u8],
-) -> Result<Reply, AllocError>
-    ensures { IfOk result (λ reply. IsQuestionReply (map plain_file files.now)
-        (IsAnswerTo question.now (map plain_file files.now) label.now) reply.text.items
-        (number_of reply.status)) }
-{
-    let answer = check(alloc, seed, files);
-    let reply = answer_or_verdict(alloc, files, &answer, question, label);
-    drop(answer);
-    reply
-}
-
-/// The reply to the question for the file with a number, with each complete proof in a form.
-pub(crate) fn all_saved_reply(
-    alloc: Global,
-    seed: Seed,
-    files: &[File],
-    form: Form,
-    number: usize,
-) -> Result<Reply, AllocError>
-    requires { number < length files.now }
-    ensures { IfOk result (λ reply. IsQuestionReply (map plain_file files.now)
-        (IsAllSavedReply form (map plain_file files.now) number) reply.text.items
-        (number_of reply.status)) }
-{
-    match saved_all(alloc, seed, files, number, form) {
-        Ok(text) => Ok(Reply {
-            text,
-            status: Status::Done,
-        }),
-        Err(SaveFault::TooLong { label }) => ask_reply(alloc, label, AskFault::Rule(AskRule::L2)),
-        Err(SaveFault::Ask(fault)) => ask_reply(alloc, name_of(files, number), fault),
-        Err(SaveFault::Check(fault)) => fault_reply(alloc, files, &fault),
+        Question::Users { all } => {
+            text_reply(alloc, label, users_text(alloc, checked, label, *all))
+        }
+        Question::Statement => text_reply(alloc, label, statement_text(alloc, checked, label)),
+        Question::Minimized => {
+            text_reply(alloc, label, minimized_by_library(alloc, checked, label))
+        }
     }
 }

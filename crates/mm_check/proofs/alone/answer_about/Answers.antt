@@ -1,21 +1,16 @@
 -- What is said of the `$p` with the number is said of the theorem.
-use Rattle.std.proofs.Common.{length, map}
+use Rattle.std.proofs.Common.{map}
 use Rattle.std.proofs.lemmas.Result.{IfOk-weaker}
 use Rattle.mm_text.specs.Files.{PlainFile, plain_file}
-use Rattle.mm_base.specs.Statement.{plain_statement}
-use Rattle.mm_frame.specs.Sentence.{sentence_of}
 use Rattle.mm_explain.specs.Reply.{IsTryReply}
 use Rattle.mm_rules.specs.Status.{number_of}
-use Rattle.mm_explain.proofs.LoneProofs.LoneTheorems.{of_reached, reached_number}
+use Rattle.mm_explain.proofs.LoneProofs.LoneTheorems.{of_reached}
+use Rattle.mm_check.proofs.KnownSteps.{reached_proof}
 use Rattle.mm_check.proofs.alone.answer_about.Goals as goal
 
 pub try_reply-requires : goal.try_reply-requires
 try_reply-requires c =
-    let h = c.requires.1 in (
-      length h.before,
-      sentence_of (plain_statement c.args.reached.now.statement),
-      reached_number (map plain_file c.args.files.now) c.requires.0 c.args.reached.now h,
-    )
+    reached_proof (map plain_file c.args.files.now) c.args.reached.now c.requires
 
 pub returns-in-Known : goal.returns-in-Known
 returns-in-Known c = rw c.in-Known.is c.known_reply.ensures

@@ -16,6 +16,7 @@ use Rattle.mm_facts.specs.Why.{IsFaultPlace}
 use Rattle.mm_explain.specs.Why.{head_text}
 use Rattle.mm_explain.proofs.LoneProofs.LoneTheorems.{of_reached, reached_before, reached_few}
 use Rattle.mm_explain.proofs.LoneProofs.LoneTheorems.{reached_number}
+use Rattle.mm_check.proofs.KnownSteps.{reached_proof}
 use Rattle.mm_check.proofs.checked_prefix.fault_reply.Goals as goal
 
 pub refusal-refusal-requires : goal.refusal-refusal-requires
@@ -25,11 +26,7 @@ refusal-refusal-requires c =
 
 pub cause_of-requires-clause-proof : goal.cause_of-requires-clause-proof
 cause_of-requires-clause-proof c =
-    let h = c.requires.reached.1 in (
-      length h.before,
-      sentence_of (plain_statement c.args.reached.now.statement),
-      reached_number (map plain_file c.args.files.now) c.requires.reached.0 c.args.reached.now h,
-    )
+    reached_proof (map plain_file c.args.files.now) c.args.reached.now c.requires.reached
 
 pub fault_place-at-requires-clause-cause : goal.fault_place-at-requires-clause-cause
 fault_place-at-requires-clause-cause c =
@@ -46,11 +43,7 @@ fault_place-at-requires-clause-cause c =
 
 pub push_cause-requires-clause-proof : goal.push_cause-requires-clause-proof
 push_cause-requires-clause-proof c =
-    let h = c.requires.reached.1 in (
-      length h.before,
-      sentence_of (plain_statement c.args.reached.now.statement),
-      reached_number (map plain_file c.args.files.now) c.requires.reached.0 c.args.reached.now h,
-    )
+    reached_proof (map plain_file c.args.files.now) c.args.reached.now c.requires.reached
 
 pub push_cause-requires-clause-cause : goal.push_cause-requires-clause-cause
 push_cause-requires-clause-cause c =

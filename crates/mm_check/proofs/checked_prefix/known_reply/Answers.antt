@@ -1,19 +1,14 @@
 -- The tokens are those of the theorem's proof.
-use Rattle.std.proofs.Common.{length, map, inr}
+use Rattle.std.proofs.Common.{map, inr}
 use Rattle.std.proofs.lemmas.Result.{IfOk-weaker}
 use Rattle.mm_text.specs.Files.{plain_file}
-use Rattle.mm_base.specs.Statement.{plain_statement}
-use Rattle.mm_frame.specs.Sentence.{sentence_of}
-use Rattle.mm_explain.proofs.LoneProofs.LoneTheorems.{reached_fits, reached_number}
+use Rattle.mm_explain.proofs.LoneProofs.LoneTheorems.{reached_fits}
+use Rattle.mm_check.proofs.KnownSteps.{reached_proof}
 use Rattle.mm_check.proofs.checked_prefix.known_reply.Goals as goal
 
 pub judged_steps-requires-clause-proof : goal.judged_steps-requires-clause-proof
 judged_steps-requires-clause-proof c =
-    let h = c.requires.1 in (
-      length h.before,
-      sentence_of (plain_statement c.args.reached.now.statement),
-      reached_number (map plain_file c.args.files.now) c.requires.0 c.args.reached.now h,
-    )
+    reached_proof (map plain_file c.args.files.now) c.args.reached.now c.requires
 
 pub judged_steps-requires-clause-room : goal.judged_steps-requires-clause-room
 judged_steps-requires-clause-room c =

@@ -5,10 +5,10 @@ pub returns-in-Whole : goal.returns-in-Whole
 returns-in-Whole g c = rw c.in-Whole.is c.whole_reply.ensures
 
 pub returns-in-About : goal.returns-in-About
-returns-in-About g c = rw c.in-About.is c.question_reply.ensures
+returns-in-About g c = rw c.in-About.is c.checked_reply.ensures
 
 pub returns-in-File : goal.returns-in-File
 returns-in-File g c = rw c.in-File.is c.all_saved_reply.ensures
 
 pub returns-in-Shorter : goal.returns-in-Shorter
-returns-in-Shorter g c = rw c.in-Shorter.is c.shorter_file_reply.ensures
+returns-in-Shorter g c = rw c.in-Shorter.is c.checked_reply-in-Shorter.ensures

@@ -1,9 +1,0 @@
--- The reply is that over the answer of `check`.
-use Rattle.std.proofs.lemmas.Result.{IfOk-weaker}
-use Rattle.mm_check.proofs.question.all_axioms_reply.Goals as goal
-
-pub returns : goal.returns
-returns c =
-    IfOk-weaker c.all_axioms_answer-reply.result _ _
-    (λ reply told. told c.args.profile c.check_with-answer.ensures.verdict)
-    c.all_axioms_answer-reply.ensures
