@@ -5,6 +5,7 @@ mod check;
 mod code;
 mod devices;
 mod failing;
+mod find;
 mod frame;
 mod growths;
 mod included;

@@ -8,3 +8,4 @@ pub mod Judged
 pub mod Visits
 pub mod Reached
 pub mod Rereading
+pub mod Taking

@@ -9,6 +9,7 @@ mod faults;
 mod form;
 mod reply;
 pub mod reread;
+mod taking;
 mod text;
 mod theorem;
 mod theorems;
@@ -24,7 +25,8 @@ pub use reply::{
     verdict_reply,
 };
 pub use reread::{has_label, proof_of};
-pub use text::{handed_tokens, is_space, placed_tokens, proof_tokens};
+pub use taking::{take, take_next};
+pub use text::{handed_tokens, is_space, placed_tokens, proof_tokens, tokens_of};
 pub use theorem::{Theorem, read_theorem};
 pub use theorems::Rereading;
 pub use verdict::{beginning, check, check_with, conclude, judge_files, load, make_room, next};

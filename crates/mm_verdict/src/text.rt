@@ -72,7 +72,7 @@ pub fn placed_tokens<'a>(alloc: Global, text: &'a [u8]) -> Result<Vec<Token<'a>>
 }
 
 /// The texts of the tokens of a text.
-fn tokens_of<'a>(alloc: Global, text: &'a [u8]) -> Result<Vec<&'a [u8]>, AllocError>
+pub fn tokens_of<'a>(alloc: Global, text: &'a [u8]) -> Result<Vec<&'a [u8]>, AllocError>
     requires { length text.now ≤ most_bytes }
     ensures tokens { IfOk result (λ tokens. texts tokens.items ≡ tokens_in text.now) }
     ensures room { IfOk result (λ tokens. sum_by length (texts tokens.items)

@@ -1,0 +1,5 @@
+pub mod Shape
+pub mod Found
+pub mod Plain
+pub mod Reply
+pub mod Mirror
