@@ -1,8 +1,10 @@
 -- Why a theorem depends on an assertion: of the chains of uses from the theorem to the assertion,
--- the first of the shortest. What a proof uses is that of `Rests` of `mm_rules`.
+-- the first of the shortest, compared from the theorem on. Where both are one statement, the chain
+-- is the theorem alone. What a proof uses is that of `Rests` of `mm_rules`.
 use Rattle.std.specs.Prelude.{◌≡◌, ◌≢◌, ◌⊎◌, ℕ, ◌<◌, ◌≤◌, List, [], ◌∷◌, length, true}
 use Rattle.mm_base.specs.Statement.{PlainStatement}
 use Rattle.mm_frame.specs.Sentence.{IsAssertion}
+use Rattle.mm_rules.specs.declared.ask.AskFault.TheVariants as ask_fault
 use Rattle.mm_rules.specs.Verdict.{is_proof}
 use Rattle.mm_rules.specs.Rests.{IsNamed, IsAskFault, Uses, RestsOn}
 use Rattle.mm_axioms.specs.Users.{IsAssertionFault}
@@ -22,12 +24,13 @@ IsNotAfter [] other = Unit {0}
 IsNotAfter (x ∷ xs) [] = ⊥
 IsNotAfter (x ∷ xs) (y ∷ ys) = (x < y) ⊎ ((x ≡ y) × IsNotAfter xs ys)
 
--- these lead from one number to another, no fewer do, and of as many they come first in the order of
--- the database
+-- these lead from one number to another, no fewer do, and of as many they come first in the order
+-- of the database
 pub record IsFirstChain (Uses : ℕ → ℕ → Type 0) (from to : ℕ) (others : List ℕ) : Type 0 where
   pub leads : Leads Uses from to others
   pub shortest : (ys : List ℕ) → Leads Uses from to ys → length others ≤ length ys
-  pub first : (ys : List ℕ) → Leads Uses from to ys → length ys ≡ length others → IsNotAfter others ys
+  pub first : (ys : List ℕ) → Leads Uses from to ys → length ys ≡ length others
+      → IsNotAfter others ys
 
 -- the theorem with the one label, and the assertion with the other
 pub record AreEnds (statements : List PlainStatement) (label other : List ℕ)
@@ -45,10 +48,13 @@ pub record IsChain (statements : List PlainStatement) (label other : List ℕ)
   pub whole : chain ≡ theorem ∷ others
   pub first : IsFirstChain (Uses statements) theorem assertion others
 
--- Why there is no chain: nothing can be asked of the theorem, or of the assertion; or the theorem is
+-- Why there is no chain: nothing can be asked of the theorem, or of the assertion; or the theorem
+-- is
 -- another and doesn't rest on it. A refused growth says nothing of the statements.
 abbrev pub IsChainFault : List PlainStatement → (label other : List ℕ) → ChainFault → Type 0
+IsChainFault statements label other (Theorem ask_fault.Memory) = ⊥
 IsChainFault statements label other (Theorem fault) = IsAskFault statements label fault
+IsChainFault statements label other (Assertion ask_fault.Memory) = ⊥
 IsChainFault statements label other (Assertion fault) =
     ((id : ℕ) × IsNamed statements label (λ s. is_proof s ≡ true) id)
     × IsAssertionFault statements other fault

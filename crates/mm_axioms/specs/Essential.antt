@@ -1,5 +1,6 @@
--- What of a report is of the type code of the theorem. The type code of a statement is its first
--- symbol.
+-- Which axioms of a report have the type code of the theorem. The type code of a statement is its
+-- first symbol (Metamath book, sections 4.2.5 and 4.2.6). Axioms are called essential for it here;
+-- in `show`, steps are that are reached through `$e`, which is another thing.
 use Rattle.std.specs.Prelude.{◌≡◌, ℕ, List, slice_get, Contains, Some}
 use Rattle.mm_base.specs.Statement.{PlainStatement}
 use Rattle.mm_frame.specs.Sentence.{Sentence}
@@ -23,11 +24,10 @@ abbrev pub AreOfType : List Sentence → (theorem : ℕ) → (numbers chosen : L
 AreOfType statements theorem numbers chosen =
     AreInOrder (λ n. Contains numbers n × HaveOneType statements theorem n) chosen
 
--- of what the theorem with the label rests on, as its report lists it: what has its type code
+-- what the theorem with the label rests on, as its report lists it, but of the axioms those alone
+-- that have its type code; the unproved theorems are listed whatever theirs
 pub record IsEssentialReport (statements : List PlainStatement) (label : List ℕ)
     (axioms unproved : List ℕ) : Type 0 where
   pub all_axioms : List ℕ
-  pub all_unproved : List ℕ
-  pub report : IsReport statements label all_axioms all_unproved
+  pub report : IsReport statements label all_axioms unproved
   pub are_axioms : AreOfType (sentences statements) report.id all_axioms axioms
-  pub are_unproved : AreOfType (sentences statements) report.id all_unproved unproved

@@ -21,7 +21,7 @@ ghost use Rattle.std.specs.Prelude.{◌≡◌, ◌<◌, List, map, length, slice
 
 use crate::bits::index_of;
 use crate::chains::{ChainFault, chain_between};
-use crate::essential::essential_of;
+use crate::essential::of_type;
 use crate::report::{
     Report, Tables, axioms_among, marked_among, reach, report_in, tables_of, theorems_of,
 };
@@ -62,8 +62,9 @@ pub fn axioms(alloc: Global, checked: &Checked, label: &[u8]) -> Result<Report, 
     Ok(Report { axioms, unproved })
 }
 
-/// What the `$p` with this label rests on, as `axioms` lists it, and of that what has the type code
-/// of the `$p`: the first symbol of its statement.
+/// What the `$p` with this label rests on, as `axioms` lists it, but of the axioms those alone that
+/// have the type code of the `$p`: the first symbol of its statement. The unproved `$p` are listed
+/// whatever theirs.
 ///
 /// # Errors
 ///
@@ -83,7 +84,12 @@ pub fn essential_axioms(alloc: Global, checked: &Checked, label: &[u8]) -> Resul
     let book = &checked.book;
     let theorem = checked.theorem(label)?;
     let report = axioms(alloc, checked, label)?;
-    Ok(essential_of(alloc, book, theorem, &report)?)
+    let Report {
+        axioms: all_axioms,
+        unproved,
+    } = report;
+    let axioms = of_type(alloc, book, theorem, &all_axioms)?;
+    Ok(Report { axioms, unproved })
 }
 
 /// The number of the `$a` or `$p` that has this label.
@@ -170,16 +176,18 @@ fn ends_of(checked: &Checked, label: &[u8], other: &[u8]) -> Result<Ends, ChainF
     match checked.theorem(label) {
         Ok(theorem) => match assertion(checked, other) {
             Ok(assertion) => Ok(Ends { theorem, assertion }),
+            Err(AskFault::Memory) => Err(ChainFault::Memory),
             Err(fault) => Err(ChainFault::Assertion(fault)),
         },
+        Err(AskFault::Memory) => Err(ChainFault::Memory),
         Err(fault) => Err(ChainFault::Theorem(fault)),
     }
 }
 
 /// Why the `$p` with one label depends on the assertion with the other: a chain in which each uses
 /// the next, from the one to the other. No chain is shorter; of those as short it is the one whose
-/// assertions come first in the database, compared from the front. The chain from a `$p` to itself
-/// has it alone.
+/// assertions come first in the database, compared from the theorem on. The chain from a `$p` to
+/// itself has it alone.
 ///
 /// # Errors
 ///

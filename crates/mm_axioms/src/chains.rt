@@ -17,9 +17,9 @@ use std::alloc::{AllocError, Global};
 /// Why there is no chain of uses from a theorem to an assertion. They are judged in this order.
 #[derive(Clone, Copy, PartialEq, Eq, Debug)]
 pub enum ChainFault {
-    /// Nothing can be asked of the theorem's label.
+    /// Nothing can be asked of the theorem's label, for this, which isn't `Memory`.
     Theorem(AskFault),
-    /// Nothing can be asked of the assertion's label.
+    /// Nothing can be asked of the assertion's label, for this, which isn't `Memory`.
     Assertion(AskFault),
     /// The theorem doesn't depend on the assertion.
     Independent,

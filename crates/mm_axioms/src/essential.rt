@@ -1,4 +1,4 @@
-//! What of a report is of the type code of the theorem.
+//! Which axioms of a report have the type code of the theorem.
 
 ghost use Rattle.std.specs.Prelude.{◌≡◌, ◌↔◌, ◌<◌, map, length, slice_get};
 ghost use Rattle.std.specs.Prelude.{IfOk, IsTrue, Some};
@@ -7,7 +7,6 @@ ghost use Rattle.mm_frame.specs.Sentence.{Sentence};
 ghost use Rattle.mm_axioms.specs.Essential.{HaveOneType, AreOfType};
 ghost use Rattle.mm_axioms.specs.Mirror.Codes.{IsCodeOf, AreNumbersWithin};
 
-use crate::report::Report;
 use mm_frame::{Book, LabelId, Sym};
 use std::alloc::{AllocError, Global};
 
@@ -35,7 +34,7 @@ fn have_one_type(book: &Book, one: LabelId, other: LabelId) -> bool
 }
 
 /// Those of these numbers that have the type code of a theorem, in their order.
-fn of_type(
+pub(crate) fn of_type(
     alloc: Global,
     book: &Book,
     theorem: LabelId,
@@ -54,26 +53,4 @@ fn of_type(
         }
     }
     Ok(chosen)
-}
-
-/// What of the report of a theorem has its type code.
-pub(crate) fn essential_of(
-    alloc: Global,
-    book: &Book,
-    theorem: LabelId,
-    report: &Report,
-) -> Result<Report, AllocError>
-    requires theorem { theorem.0 < length (labelled_sentences book.now.statements) }
-    requires axioms { AreNumbersWithin (length (labelled_sentences book.now.statements))
-        (map (λ l. l.0) report.now.axioms.items) }
-    requires unproved { AreNumbersWithin (length (labelled_sentences book.now.statements))
-        (map (λ l. l.0) report.now.unproved.items) }
-    ensures axioms { IfOk result (λ of. AreOfType book.now.statements theorem.0
-        (map (λ l. l.0) report.now.axioms.items) (map (λ l. l.0) of.axioms.items)) }
-    ensures unproved { IfOk result (λ of. AreOfType book.now.statements theorem.0
-        (map (λ l. l.0) report.now.unproved.items) (map (λ l. l.0) of.unproved.items)) }
-{
-    let axioms = of_type(alloc, book, theorem, &report.axioms)?;
-    let unproved = of_type(alloc, book, theorem, &report.unproved)?;
-    Ok(Report { axioms, unproved })
 }

@@ -9,8 +9,9 @@ use Rattle.mm_rules.specs.Conclusion.{Conclusion}
 use Rattle.mm_rules.specs.Answer.{IsKeptOf}
 use Rattle.mm_verdict.proofs.Verdicts.AcceptedStatements.{read_statements, KeptWell}
 use Rattle.mm_verdict.proofs.Questions.AskedTheorems.{all_among}
+use Rattle.mm_axioms.specs.Essential.{AreOfType}
 use Rattle.mm_axioms.specs.Mirror.Codes.{AreNumbersWithin}
-use Rattle.mm_axioms.proofs.TypeCodes.{essential_told, report_within}
+use Rattle.mm_axioms.proofs.TypeCodes.{essential_told, axioms_within}
 use Rattle.mm_axioms.proofs.asked_axioms.essential_axioms.Goals as goal
 
 pub returns-in_err-theorem-clause-fault : goal.returns-in_err-theorem-clause-fault
@@ -20,39 +21,41 @@ returns-in_err-theorem-clause-fault c =
     (λ statements reads. c.in_err-theorem.ensures.fault statements
     (read_statements c.args.checked.now statements well.origin reads).kept)
 
-pub essential_of-requires-clause-axioms : goal.essential_of-requires-clause-axioms
-essential_of-requires-clause-axioms c =
+pub of_type-requires-clause-numbers : goal.of_type-requires-clause-numbers
+of_type-requires-clause-numbers c =
     let now : Conclusion = c.args.checked.now in
     let well = subst KeptWell c.checked.view_is c.checked.invariant in
-    let told : c.checked.inside.book.statements ≡ now.sentences = ap (λ (v : Conclusion). v.sentences) c.checked.view_is in
-    subst (λ (ss : List Sentence). AreNumbersWithin (length (labelled_sentences ss)) (ids_in c.in_ok-report.report.axioms.items)) (sym (told ∙ well.origin.sentences))
-    (report_within well.origin.statements c.args.label.now _ _ (c.in_ok-report.ensures.report well.origin.statements well.origin.accepted.reads)).0
-
-pub essential_of-requires-clause-unproved : goal.essential_of-requires-clause-unproved
-essential_of-requires-clause-unproved c =
-    let now : Conclusion = c.args.checked.now in
-    let well = subst KeptWell c.checked.view_is c.checked.invariant in
-    let told : c.checked.inside.book.statements ≡ now.sentences = ap (λ (v : Conclusion). v.sentences) c.checked.view_is in
-    subst (λ (ss : List Sentence). AreNumbersWithin (length (labelled_sentences ss)) (ids_in c.in_ok-report.report.unproved.items)) (sym (told ∙ well.origin.sentences))
-    (report_within well.origin.statements c.args.label.now _ _ (c.in_ok-report.ensures.report well.origin.statements well.origin.accepted.reads)).1
+    let told : c.checked.inside.book.statements ≡ now.sentences =
+    ap (λ (v : Conclusion). v.sentences) c.checked.view_is in
+    rw c.deref.ensures.value
+    (subst (λ (ss : List Sentence). AreNumbersWithin (length (labelled_sentences ss))
+    (ids_in c.in_ok-report.report.axioms.items)) (sym (told ∙ well.origin.sentences))
+    (axioms_within well.origin.statements c.args.label.now _ _
+    (c.in_ok-report.ensures.report well.origin.statements well.origin.accepted.reads)))
 
 pub returns-clause-report : goal.returns-clause-report
 returns-clause-report c = λ statements reads.
     let now : Conclusion = c.args.checked.now in
     let well = subst KeptWell c.checked.view_is c.checked.invariant in
     let kept : IsKeptOf statements now = (read_statements now statements well.origin reads).kept in
-    let told : c.checked.inside.book.statements ≡ now.sentences = ap (λ (v : Conclusion). v.sentences) c.checked.view_is in
-    essential_told statements c.args.label.now c.checked.inside.book.statements c.in_ok-theorem.theorem.0 _ _ _ _ (told ∙ kept.sentences)
-    (subst AllMeant kept.sentences c.theorem.ensures.sound.0) (c.in_ok-theorem.ensures.found statements kept)
-    (c.in_ok-report.ensures.report statements reads) c.in_ok-essential_of.ensures.axioms c.in_ok-essential_of.ensures.unproved
+    let told : c.checked.inside.book.statements ≡ now.sentences =
+    ap (λ (v : Conclusion). v.sentences) c.checked.view_is in
+    essential_told statements c.args.label.now c.checked.inside.book.statements
+    c.in_ok-theorem.theorem.0 _ _ _ (told ∙ kept.sentences)
+    (subst AllMeant kept.sentences c.theorem.ensures.sound.0)
+    (c.in_ok-theorem.ensures.found statements kept)
+    (c.in_ok-report.ensures.report statements reads)
+    (rw c.deref.ensures.value at c.in_ok-axioms.ensures)
 
 pub returns-clause-in_range : goal.returns-clause-in_range
 returns-clause-in_range c =
-    let now : Conclusion = c.args.checked.now in (
-      all_within (λ n. n < length now.labels) (ids_in c.in_ok-essential_of.field-0.axioms.items) (λ n h.
-          all_among (λ m. m < length now.labels) (ids_in c.in_ok-report.report.axioms.items) n c.in_ok-report.ensures.in_range.0
-          ((c.in_ok-essential_of.ensures.axioms.each n).0 h).0),
-      all_within (λ n. n < length now.labels) (ids_in c.in_ok-essential_of.field-0.unproved.items) (λ n h.
-          all_among (λ m. m < length now.labels) (ids_in c.in_ok-report.report.unproved.items) n c.in_ok-report.ensures.in_range.1
-          ((c.in_ok-essential_of.ensures.unproved.each n).0 h).0),
+    let now : Conclusion = c.args.checked.now in
+    let chosen : AreOfType c.checked.inside.book.statements c.in_ok-theorem.theorem.0
+    (ids_in c.in_ok-report.report.axioms.items) (ids_in c.in_ok-axioms.axioms.items) =
+    rw c.deref.ensures.value at c.in_ok-axioms.ensures in (
+      all_within (λ n. n < length now.labels) (ids_in c.in_ok-axioms.axioms.items)
+          (λ n h. all_among (λ m. m < length now.labels)
+          (ids_in c.in_ok-report.report.axioms.items) n c.in_ok-report.ensures.in_range.0
+          ((chosen.each n).0 h).0),
+      c.in_ok-report.ensures.in_range.1,
     )

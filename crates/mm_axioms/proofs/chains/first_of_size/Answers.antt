@@ -1,5 +1,6 @@
 -- One more number.
-use Rattle.std.proofs.Common.{◌≡◌, ◌≤◌, ℕ, List, map, take, length, get_or, Contains, sym, subst, ◌∙◌}
+use Rattle.std.proofs.Common.{◌≡◌, ◌≤◌, ℕ, List, map, take, length, get_or, Contains, sym, subst}
+use Rattle.std.proofs.Common.{◌∙◌}
 use Rattle.std.proofs.lemmas.List.{take_all}
 use Rattle.std.proofs.lemmas.Option.{slice_get-get_or}
 use Rattle.mm_frame.specs.declared.number.LabelId.{LabelId}
@@ -21,11 +22,16 @@ loop-number-preserved c =
     elim c.if-own-size.branch [
       | then-own-size w ↦
           rw (w.first-is, more)
-          (first_taken c.args.sizes.now (map (λ (l : LabelId). l.0) (take k numbers)) x w.earlier.result c.args.size c.loop-number.first c.loop-number.invariant
-          (sym c.size_of-own.ensures ∙ w.if-own-size.true) w.earlier.ensures.either w.earlier.ensures.least w.earlier.ensures.no_later)
+          (first_taken c.args.sizes.now
+          (map (λ (l : LabelId). l.0) (take k numbers)) x w.earlier.result c.args.size
+          c.loop-number.first c.loop-number.invariant
+          (sym c.size_of-own.ensures ∙ w.if-own-size.true) w.earlier.ensures.either
+          w.earlier.ensures.least w.earlier.ensures.no_later)
       | else-own-size w ↦
           rw (w.first-is, more)
-          (first_passed c.args.sizes.now (map (λ (l : LabelId). l.0) (take k numbers)) x.0 c.args.size c.loop-number.first c.loop-number.invariant
+          (first_passed c.args.sizes.now
+          (map (λ (l : LabelId). l.0) (take k numbers)) x.0 c.args.size c.loop-number.first
+          c.loop-number.invariant
           (λ h. w.if-own-size.false (c.size_of-own.ensures ∙ h)))
     ]
 
@@ -33,12 +39,16 @@ pub returns-clause-found : goal.returns-clause-found
 returns-clause-found c =
     let numbers : List LabelId = c.args.numbers.now in
     let all : length numbers ≤ c.loop-number.number-index = c.loop-number-test.false in
-    (subst (λ (xs : List LabelId). IsFirstOfSize c.args.sizes.now (map (λ (l : LabelId). l.0) xs) c.args.size c.loop-number.first) (take_all c.loop-number.number-index numbers all)
+    (subst (λ (xs : List LabelId). IsFirstOfSize c.args.sizes.now
+    (map (λ (l : LabelId). l.0) xs) c.args.size c.loop-number.first)
+    (take_all c.loop-number.number-index numbers all)
     c.loop-number.invariant).found
 
 pub returns-clause-first : goal.returns-clause-first
 returns-clause-first c =
     let numbers : List LabelId = c.args.numbers.now in
     let all : length numbers ≤ c.loop-number.number-index = c.loop-number-test.false in
-    (subst (λ (xs : List LabelId). IsFirstOfSize c.args.sizes.now (map (λ (l : LabelId). l.0) xs) c.args.size c.loop-number.first) (take_all c.loop-number.number-index numbers all)
+    (subst (λ (xs : List LabelId). IsFirstOfSize c.args.sizes.now
+    (map (λ (l : LabelId). l.0) xs) c.args.size c.loop-number.first)
+    (take_all c.loop-number.number-index numbers all)
     c.loop-number.invariant).first

@@ -22,24 +22,33 @@ loop-number-preserved c =
       | then-is_less w ↦
           let (some, less) = c.is_less.ensures.0 w.if-is_less.true in
           rw (w.least-is, more)
-          (least_taken c.args.sizes.now (map (λ (l : LabelId). l.0) (take k numbers)) x.0 c.size_of-size.result c.loop-number.least c.loop-number.invariant
+          (least_taken c.args.sizes.now
+          (map (λ (l : LabelId). l.0) (take k numbers)) x.0 c.size_of-size.result
+          c.loop-number.least c.loop-number.invariant
           c.size_of-size.ensures some less)
       | else-is_less w ↦
           rw (w.least-is, more)
-          (least_passed c.args.sizes.now (map (λ (l : LabelId). l.0) (take k numbers)) x.0 c.size_of-size.result c.loop-number.least c.loop-number.invariant
-          c.size_of-size.ensures (λ h. absurd (let t = c.is_less.ensures.1 h in let f = w.if-is_less.false in cc)))
+          (least_passed c.args.sizes.now
+          (map (λ (l : LabelId). l.0) (take k numbers)) x.0 c.size_of-size.result
+          c.loop-number.least c.loop-number.invariant
+          c.size_of-size.ensures
+          (λ h. absurd (let t = c.is_less.ensures.1 h in let f = w.if-is_less.false in cc)))
     ]
 
 pub returns-clause-least : goal.returns-clause-least
 returns-clause-least c =
     let numbers : List LabelId = c.args.numbers.now in
     let all : length numbers ≤ c.loop-number.number-index = c.loop-number-test.false in
-    (subst (λ (xs : List LabelId). IsLeastSize c.args.sizes.now (map (λ (l : LabelId). l.0) xs) c.loop-number.least) (take_all c.loop-number.number-index numbers all)
+    (subst (λ (xs : List LabelId). IsLeastSize c.args.sizes.now
+    (map (λ (l : LabelId). l.0) xs) c.loop-number.least)
+    (take_all c.loop-number.number-index numbers all)
     c.loop-number.invariant).least
 
 pub returns-clause-found : goal.returns-clause-found
 returns-clause-found c =
     let numbers : List LabelId = c.args.numbers.now in
     let all : length numbers ≤ c.loop-number.number-index = c.loop-number-test.false in
-    (subst (λ (xs : List LabelId). IsLeastSize c.args.sizes.now (map (λ (l : LabelId). l.0) xs) c.loop-number.least) (take_all c.loop-number.number-index numbers all)
+    (subst (λ (xs : List LabelId). IsLeastSize c.args.sizes.now
+    (map (λ (l : LabelId). l.0) xs) c.loop-number.least)
+    (take_all c.loop-number.number-index numbers all)
     c.loop-number.invariant).found
