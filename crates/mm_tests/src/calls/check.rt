@@ -2,7 +2,7 @@
 
 use crate::calls::failing::failing_writer;
 use crate::tests::{CHECK, reply_to};
-use mm_axioms::{Report, axioms};
+use mm_axioms::{ChainFault, Report, axioms, chain, essential_axioms};
 use mm_base::{File, Seed};
 use mm_check::{Command, Question, RunFault, run};
 use mm_frame::MeaningRule;
@@ -29,6 +29,13 @@ const OPEN: &[u8] = b"$c a $. p $a a $. q $p a $= ? $. r $p a $= p $. s $p a $= 
 // t rests on p, through s and r; u rests on the incomplete q.
 const DEEP: &[u8] = b"$c a $. p $a a $. q $p a $= ? $. r $p a $= p $. s $p a $= r $. \
 t $p a $= s $. u $p a $= q $.";
+
+// Statements of the type codes a and b: that of w, u and v is b. From t one comes to w by q or p,
+// and by r in more steps. n rests on the incomplete u besides.
+const CODES: &[u8] = b"$c a b $. w $a b $. ${ h $e b $. m $a a $. $} \
+q $p a $= w m $. p $p a $= w m $. ${ k $e a $. l $e a $. j $a a $. $} \
+r $p a $= q p j $. t $p a $= r p q j j $. u $p b $= ? $. v $p b $= w $. \
+n $p a $= t u m j $.";
 
 // The proof of th makes the tree of its third step once, and uses it twice.
 const SHARED: &[u8] = b"$c e $. $v x y $. fx $f e x $. fy $f e y $. nil $a e $. cat $a e x y $. \
@@ -201,6 +208,84 @@ fn refuses_questions(rt: HostRuntime) -> Result<(), Fail> {
     assert!(rt; ask_axioms(rt.alloc(), b"none")?.err() == Some(AskFault::Rule(AskRule::A1)));
     assert!(rt; ask_axioms(rt.alloc(), b"p")?.err() == Some(AskFault::Rule(AskRule::A2)));
     assert!(rt; ask_axioms(rt.alloc(), b"q")?.err() == Some(AskFault::Rule(AskRule::A3)));
+    Ok(())
+}
+
+/// Whether the shortest chain from a theorem to an assertion has these labels.
+fn has_chain(
+    alloc: Global,
+    checked: &Checked,
+    (label, other): (&[u8], &[u8]),
+    next: &[u8],
+) -> bool {
+    let Ok(found) = chain(alloc, checked, label, other) else {
+        return false;
+    };
+    match found.as_slice() {
+        [a, b, c] => {
+            checked.name(*a) == label && checked.name(*b) == next && checked.name(*c) == other
+        }
+        _ => false,
+    }
+}
+
+#[test]
+fn finds_the_first_of_the_shortest_chains(rt: HostRuntime) -> Result<(), Fail> {
+    let files = file(CODES);
+    let checked = accepted(rt.alloc(), &files)?;
+    let of_t = has_chain(rt.alloc(), &checked, (b"t", b"w"), b"q");
+    let of_n = has_chain(rt.alloc(), &checked, (b"n", b"r"), b"t");
+    drop(checked);
+    assert!(rt; of_t && of_n);
+    Ok(())
+}
+
+/// Why there is no chain from a theorem to an assertion.
+fn no_chain(alloc: Global, label: &[u8], other: &[u8]) -> Result<Option<ChainFault>, Fail> {
+    let files = file(CODES);
+    let checked = accepted(alloc, &files)?;
+    let fault = chain(alloc, &checked, label, other).err();
+    drop(checked);
+    Ok(fault)
+}
+
+#[test]
+fn finds_no_chain(rt: HostRuntime) -> Result<(), Fail> {
+    let unproved = ChainFault::Theorem(AskFault::Rule(AskRule::A3));
+    let hypothesis = ChainFault::Assertion(AskFault::Rule(AskRule::A2));
+    assert!(rt; no_chain(rt.alloc(), b"v", b"m")? == Some(ChainFault::Independent));
+    assert!(rt; no_chain(rt.alloc(), b"u", b"w")? == Some(unproved));
+    assert!(rt; no_chain(rt.alloc(), b"t", b"h")? == Some(hypothesis));
+    assert!(rt; no_chain(rt.alloc(), b"t", b"t")?.is_none());
+    Ok(())
+}
+
+/// Whether a theorem rests on these axioms of its type code, and on this unproved theorem.
+fn has_essential(
+    alloc: Global,
+    checked: &Checked,
+    label: &[u8],
+    (first, second, unproved): (&[u8], &[u8], &[u8]),
+) -> bool {
+    let Ok(report) = essential_axioms(alloc, checked, label) else {
+        return false;
+    };
+    match (report.axioms.as_slice(), report.unproved.as_slice()) {
+        ([a, b], [c]) => {
+            checked.name(*a) == first && checked.name(*b) == second && checked.name(*c) == unproved
+        }
+        _ => false,
+    }
+}
+
+// w isn't listed: its type code is b. u is, though its own is b too.
+#[test]
+fn reports_axioms_of_the_type_code(rt: HostRuntime) -> Result<(), Fail> {
+    let files = file(CODES);
+    let checked = accepted(rt.alloc(), &files)?;
+    let is_told = has_essential(rt.alloc(), &checked, b"n", (b"m", b"j", b"u"));
+    drop(checked);
+    assert!(rt; is_told);
     Ok(())
 }
 
