@@ -1,12 +1,12 @@
 -- Chains of uses: the sizes of the shortest ones to an assertion, proof after proof in the order of
 -- the database; and the first of the shortest, walked from its beginning on.
-use Rattle.std.proofs.Common.{◌≡◌, ◌≢◌, ℕ, suc, ◌+◌, ◌<◌, ◌≤◌, List, [], ◌∷◌, ◌++◌, length, map}
-use Rattle.std.proofs.Common.{get_or, set, replicate, slice_get, Contains, Bool, true, Some, ◌⊎◌}
+use Rattle.std.proofs.Common.{◌≡◌, ◌≢◌, ℕ, ◌+◌, ◌<◌, ◌≤◌, List, [], ◌∷◌, ◌++◌, length}
+use Rattle.std.proofs.Common.{set, replicate, slice_get, Contains, true, Some, ◌⊎◌}
 use Rattle.std.proofs.Common.{inl, inr, refl, sym, ap, subst, ◌∙◌, arith, nat_eq, eq-eqb}
 use Rattle.std.proofs.Common.{append_assoc, append-nil}
 use Rattle.std.specs.List.{AllByRecursion}
 use Rattle.std.proofs.lemmas.List.{get_or-set_same, get_or-set_other, get_or-replicate}
-use Rattle.std.proofs.lemmas.List.{length-replicate, length-set, get_or_past, map-append}
+use Rattle.std.proofs.lemmas.List.{length-replicate, length-set, get_or_past}
 use Rattle.std.proofs.lemmas.Option.{slice_get_within}
 use Rattle.std.proofs.lemmas.Bool.{cases_eq, cases_lt, eqb-true}
 use Rattle.std.proofs.Common.{Option, None, IfSome}
@@ -79,8 +79,11 @@ pub sizing_starts : (uses : List ProofUses) (to count : ℕ) (zeros sizes : List
 sizing_starts uses to count zeros sizes below within z e = subst
     (λ (ss : List ℕ). IsSizing uses to 0 ss) (sym (e ∙ ap (λ (zs : List ℕ). set zs to 1) z))
     (record {
-      room = λ u among. let less = below u among in omega
-          (arith, less, length-replicate {A = ℕ} count 0, length-set {A = ℕ} (replicate count 0) to 1);
+      room = λ u among.
+          let less = below u among in
+          omega
+          (arith, less, length-replicate {A = ℕ} count 0,
+          length-set {A = ℕ} (replicate count 0) to 1);
       small = λ n. elim (cases_eq n to) [
         | inl same ↦ rw same (let one = at_end in omega arith)
         | inr other ↦ let none = elsewhere n other in omega arith

@@ -1,6 +1,6 @@
 -- Type codes by number: whether two statements have one, and what of a report is of one.
-use Rattle.std.proofs.Common.{◌≡◌, ◌↔◌, ℕ, ◌<◌, List, [], ◌∷◌, map, length, slice_get, Option, Some}
-use Rattle.std.proofs.Common.{None, Contains, true, refl, sym, ap, subst, ◌∙◌}
+use Rattle.std.proofs.Common.{◌≡◌, ℕ, ◌<◌, List, [], ◌∷◌, map, length, slice_get, Option, Some}
+use Rattle.std.proofs.Common.{None, true, refl, sym, ap, subst, ◌∙◌}
 use Rattle.std.proofs.lemmas.Option.{same_Some}
 use Rattle.mm_base.specs.Statement.{PlainStatement}
 use Rattle.mm_frame.specs.declared.number.Sym.{Sym}

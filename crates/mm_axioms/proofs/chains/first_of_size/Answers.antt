@@ -1,5 +1,5 @@
 -- One more number.
-use Rattle.std.proofs.Common.{◌≡◌, ◌≤◌, ℕ, List, map, take, length, get_or, Contains, sym, subst}
+use Rattle.std.proofs.Common.{◌≤◌, ℕ, List, map, take, length, get_or, sym, subst}
 use Rattle.std.proofs.Common.{◌∙◌}
 use Rattle.std.proofs.lemmas.List.{take_all}
 use Rattle.std.proofs.lemmas.Option.{slice_get-get_or}

@@ -1,5 +1,5 @@
 -- One more number, which is taken or passed over.
-use Rattle.std.proofs.Common.{◌≤◌, List, map, length, get_or, Contains, sym, subst, ◌∙◌}
+use Rattle.std.proofs.Common.{◌≤◌, List, map, length, get_or, Contains, subst}
 use Rattle.std.proofs.lemmas.List.{take_all}
 use Rattle.std.proofs.lemmas.Option.{slice_get-get_or}
 use Rattle.mm_frame.specs.declared.number.LabelId.{LabelId}
