@@ -173,6 +173,16 @@ def dropped(folder, size):
     return asked(1, "faults bad.mm", "why bad.mm")
 
 
+def copied(folder, size):
+    """A proof that leaves so many copies of a long expression on the stack, and asks for a mark that
+    isn't there."""
+    letters = "AZ" + "".join(number(3 + at) + "BZ" for at in range(LONG))
+    write(folder, "bad.mm", f"{HEAD}nil $a a a $. cat $a a x y $.\n",
+          f"th $p |- a $= ( nil cat ) {letters}\n",
+          (f"{number(3 + LONG)}\n" for _ in range(size)), f"{number(4 + LONG)} $.\n")
+    return asked(1, "faults bad.mm", "why bad.mm")
+
+
 def chain(folder, size):
     """So many theorems, each of which uses the one before."""
     theorems = (f"t{at} $p |- x $= fx t{at - 1} $.\n" for at in range(1, size))
@@ -360,9 +370,6 @@ REASONS = {
     ("distinct", "show"): "as `check`",
     ("distinct", "statement"): "as `check`; and the reply has a line for each pair",
     ("distinct", "axioms"): "as `check`",
-    ("long_values", "why"): "keeps the expressions of all steps up to the fault; those of the step "
-                            "at fault would do",
-    ("dropped", "why"): "as `why` of long_values",
     ("growing_values", "show"): "keeps the expressions of all steps; those of the steps that are "
                                 "shown would do",
 }
@@ -377,6 +384,7 @@ CASES = [
     ("symbols in two values that are apart, doubled", doubled_values, 65_536),
     ("symbols of an expression that doubles", powers, 262_144),
     ("long expressions that come and go", dropped, 1_000),
+    ("copies of a long expression that stay on the stack", copied, 20_000),
     ("theorems, each by the one before", chain, 50_000),
     ("theorems, each by an axiom of its own", star, 25_000),
     ("theorems, each by an incomplete one", unproved, 25_000),

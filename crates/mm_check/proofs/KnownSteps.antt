@@ -1,8 +1,10 @@
 -- Where the moves of a proof stop, and the lines of the steps before.
 use Rattle.std.proofs.Common.{◌≡◌, ℕ, ◌+◌, List, [], ◌∷◌, ◌++◌, length, take, Bool, true, false}
 use Rattle.std.proofs.Common.{Option, Some, None, inl, inr, refl, sym, ap, subst, ◌∙◌, append-nil}
+use Rattle.std.proofs.Common.{◌≤◌, arith}
 use Rattle.std.specs.List.{AllZip}
-use Rattle.mm_base.proofs.Lists.{zip_length}
+use Rattle.std.proofs.lemmas.List.{take_at, length-append}
+use Rattle.std.proofs.lemmas.Slice.Zip.{AllZip-long}
 use Rattle.mm_base.specs.Statement.{plain_statement}
 use Rattle.mm_text.specs.Files.{PlainFile}
 use Rattle.mm_frame.specs.Sentence.{Sentence, sentence_of}
@@ -13,14 +15,14 @@ use Rattle.mm_step.specs.declared.profile.Profile.{Profile}
 use Rattle.mm_step.specs.declared.profile.Profile.TheVariants.{Lenient}
 use Rattle.mm_listing.specs.Halted.{HaltsProof, StopsWith}
 use Rattle.mm_proof.specs.KnownPrefix.{Pass}
-use Rattle.mm_listing.specs.Listing.{AreListed, ListedStep, TellsStep}
+use Rattle.mm_listing.specs.Listing.{AreListed, ListedStep, TellsStep, AreLinesOf}
 use Rattle.mm_step.specs.Moves.{Move, steps_in}
 use Rattle.mm_proof.specs.Parsed.{OfProof, SaySteps}
 use Rattle.mm_step.specs.Profiles.{limit_of}
 use Rattle.mm_step.specs.Proof.{IsWithin, Passed}
 use Rattle.mm_proof.specs.Proof.{IsMoveFault, IsMovesFault, Prove}
 use Rattle.mm_proof.specs.ReadSteps.{ReadSteps}
-use Rattle.mm_step.specs.Steps.{IsProofNumber}
+use Rattle.mm_step.specs.Steps.{IsProofNumber, IsNumberedMove, AreSteps}
 use Rattle.mm_step.specs.Substitution.{Expression}
 use Rattle.mm_proof.specs.Tokens.{is_incomplete, SayMoves}
 use Rattle.mm_proof.specs.Verified.{OfMoves}
@@ -111,14 +113,8 @@ module _ (st : List Sentence) (index : ℕ) (s : Sentence) (tokens : List (List 
   abbrev before : List Sentence
   before = take index st
 
-  -- as many lines as steps
-  as_many : length halt.lines.items ≡ steps_in halted.there.earlier
-  as_many =
-      zip_length (TellsStep st) halt.lines.items halted.lines.0 halted.lines.2
-      ∙ halted.lines.1.count
-
   pub halt_fault : (rule : ProofRule) → halt.rule ≡ Some rule
-      → IsTokensFault Lenient before s tokens rule (length halt.lines.items + 1)
+      → IsTokensFault Lenient before s tokens rule (halt.steps + 1)
   halt_fault rule is =
       let there = halted.there in
       let stops = subst
@@ -128,12 +124,13 @@ module _ (st : List Sentence) (index : ℕ) (s : Sentence) (tokens : List (List 
       let fault =
       stops_at before s moves there.earlier there.stack there.kept there.left there.parts
       there.passed b rule stops in
-      rw as_many (moves_fault before s tokens moves b open_one said rule
+      rw halted.steps (moves_fault before s tokens moves b open_one said rule
       (steps_in there.earlier + 1) fault.0 fault.1)
 
-  pub halt_shown : (text : List ℕ) → IsTextOfLines st halt.lines.items text
-      → AreStepsBefore before s (judged_tokens tokens) (length halt.lines.items + 1) text
-  halt_shown text laid =
+  pub halt_shown : (lines : List Line) → AreLinesOf st before halted.there.earlier lines
+      → (text : List ℕ) → IsTextOfLines st lines text
+      → AreStepsBefore before s (judged_tokens tokens) (halt.steps + 1) text
+  halt_shown lines listed text laid =
       let there = halted.there in
       let judged : SayMoves before s (judged_tokens tokens) (there.earlier ++ there.left) =
       subst (λ (ms : List (Move (List ℕ))). SayMoves before s (judged_tokens tokens) ms) there.parts
@@ -143,8 +140,8 @@ module _ (st : List Sentence) (index : ℕ) (s : Sentence) (tokens : List (List 
         there.earlier,
         there.left,
         judged,
-        ap (λ (n : ℕ). n + 1) as_many,
-        (halted.lines.0, halted.lines.1, laid halted.lines.0 halted.lines.2),
+        ap (λ (n : ℕ). n + 1) halted.steps,
+        (listed.0, listed.1, laid listed.0 listed.2),
       )
 
   -- all passed
@@ -165,20 +162,62 @@ module _ (st : List Sentence) (index : ℕ) (s : Sentence) (tokens : List (List 
       let well = passed_well none in
       moves_tried before s tokens moves b open_one said well.1 well.2
 
-  pub halt_listed : halt.rule ≡ None → (text : List ℕ) → IsTextOfLines st halt.lines.items text
+  pub halt_listed : halt.rule ≡ None → (lines : List Line)
+      → AreLinesOf st before halted.there.earlier lines
+      → (text : List ℕ) → IsTextOfLines st lines text
       → IsListingText before s (judged_where b tokens) text
-  halt_listed none text laid =
+  halt_listed none lines listed text laid =
       let same = (passed_well none).0 in
       record {
         moves = moves;
         told = said.1;
-        steps = halted.lines.0;
-        listed = subst (λ (ms : List (Move (List ℕ))). AreListed before ms halted.lines.0)
-            (sym same) halted.lines.1;
-        laid = laid halted.lines.0 halted.lines.2;
+        steps = listed.0;
+        listed = subst (λ (ms : List (Move (List ℕ))). AreListed before ms listed.0) (sym same)
+            listed.1;
+        laid = laid listed.0 listed.2;
       }
 
 -- ---- of the `$p` with a number
+
+-- the moves before the place are so many first ones
+pub first_are : (limit : ℕ) (st before : List Sentence) (s : Sentence) (b : Bool)
+    (moves : List (Move (List ℕ))) (halt : Halt) (h : HaltsProof limit st before s b moves halt)
+    → take halt.passed moves ≡ h.there.earlier
+first_are limit st _ s b moves halt h =
+    ap (λ (n : ℕ). take n moves) h.count
+    ∙ ap (λ (ms : List (Move (List ℕ))). take (length h.there.earlier) ms) h.there.parts
+    ∙ take_at h.there.earlier h.there.left (length h.there.earlier) refl
+
+-- they pass
+pub first_pass : (st : List Sentence) (id : ℕ) (steps : ReadSteps) (halt : Halt)
+    → OfMoves st id steps.moves (λ index s moves.
+    HaltsProof (limit_of steps.profile) st (take index st) s steps.prefix moves halt)
+    → OfMoves st id steps.moves (λ index s moves.
+    Pass (IsWithin (limit_of steps.profile)) (take index st) (take halt.passed moves))
+first_pass st id steps halt halted index s moves proof numbered =
+    let Fits : List (List ℕ) → Type 0 = IsWithin (limit_of steps.profile) in
+    let h = halted index s moves proof numbered in
+    let same = first_are (limit_of steps.profile) st (take index st) s steps.prefix moves halt h in
+    subst (λ (ms : List (Move (List ℕ))). Pass Fits (take index st) ms) (sym same)
+    (h.there.stack, h.there.kept, h.there.passed)
+
+-- there are as many
+pub first_within : (st : List Sentence) (id : ℕ) (steps : ReadSteps) (halt : Halt)
+    → AreSteps st id steps.moves
+    → OfMoves st id steps.moves (λ index s moves.
+    HaltsProof (limit_of steps.profile) st (take index st) s steps.prefix moves halt)
+    → halt.passed ≤ length steps.moves
+first_within st id steps halt usable halted =
+    let u = usable in
+    let h = halted u.index u.s u.moves u.proof u.numbered in
+    let long = AllZip-long (IsNumberedMove st) steps.moves u.moves u.numbered in
+    omega (
+      arith,
+      h.count,
+      long,
+      ap length h.there.parts,
+      length-append h.there.earlier h.there.left,
+    )
 
 module _ (st : List Sentence) (id : ℕ) (tokens : List (List ℕ)) (steps : ReadSteps) (halt : Halt)
     (said : OfProof st id (λ index s. SaySteps st index s (judged_tokens tokens) steps.moves))
@@ -199,20 +238,12 @@ module _ (st : List Sentence) (id : ℕ) (tokens : List (List ℕ)) (steps : Rea
       subst (λ (p : Profile). HaltsProof (limit_of p) st (take index st) s steps.prefix told.1 halt)
       profile (halted index s told.1 number told.3)
 
-  pub known_fault : (rule : ProofRule) → halt.rule ≡ Some rule → (n : ℕ)
-      → n ≡ length halt.lines.items
-      → OfProof st id (λ index s. IsTokensFault Lenient (take index st) s tokens rule (n + 1))
-  known_fault rule is n count index s number =
-      rw count (halt_fault st index s tokens (said index s number).1 steps.prefix halt (sym prefix)
-      (judged index s number) (there index s number) rule is)
-
-  pub known_shown : (n : ℕ) → n ≡ length halt.lines.items → (text : List ℕ)
-      → IsTextOfLines st halt.lines.items text
+  pub known_fault : (rule : ProofRule) → halt.rule ≡ Some rule
       → OfProof st id (λ index s.
-      AreStepsBefore (take index st) s (judged_tokens tokens) (n + 1) text)
-  known_shown n count text laid index s number =
-      rw count (halt_shown st index s tokens (said index s number).1 steps.prefix halt (sym prefix)
-      (judged index s number) (there index s number) text laid)
+      IsTokensFault Lenient (take index st) s tokens rule (halt.steps + 1))
+  known_fault rule is index s number =
+      halt_fault st index s tokens (said index s number).1 steps.prefix halt (sym prefix)
+      (judged index s number) (there index s number) rule is
 
   pub known_tried : halt.rule ≡ None → (b : Bool) → steps.prefix ≡ b
       → OfProof st id (λ index s. AreTried (take index st) s tokens (tried_as b))
@@ -221,13 +252,34 @@ module _ (st : List Sentence) (id : ℕ) (tokens : List (List ℕ)) (steps : Rea
       (halt_tried st index s tokens (said index s number).1 steps.prefix halt (sym prefix)
       (judged index s number) (there index s number) none)
 
-  pub known_listed : halt.rule ≡ None → (b : Bool) → steps.prefix ≡ b → (text : List ℕ)
-      → IsTextOfLines st halt.lines.items text
-      → OfProof st id (λ index s. IsListingText (take index st) s (judged_where b tokens) text)
-  known_listed none b is text laid index s number =
-      subst (λ (c : Bool). IsListingText (take index st) s (judged_where c tokens) text) is
-      (halt_listed st index s tokens (said index s number).1 steps.prefix halt (sym prefix)
-      (judged index s number) (there index s number) none text laid)
+  module _ (lines : List Line)
+      (listed : OfMoves st id steps.moves (λ index s moves.
+      AreLinesOf st (take index st) (take halt.passed moves) lines))
+      (text : List ℕ) (laid : IsTextOfLines st lines text) where
+    -- the lines are those of the moves before the place
+    listed_there : (index : ℕ) (s : Sentence) (number : IsProofNumber st id index s)
+        → AreLinesOf st (take index st) (there index s number).there.earlier lines
+    listed_there index s number =
+        let told = said index s number in
+        let h = there index s number in
+        subst (λ (ms : List (Move (List ℕ))). AreLinesOf st (take index st) ms lines)
+        (first_are (limit_of Lenient) st (take index st) s steps.prefix told.1 halt h)
+        (listed index s told.1 number told.3)
+
+    pub known_shown : OfProof st id (λ index s.
+        AreStepsBefore (take index st) s (judged_tokens tokens) (halt.steps + 1) text)
+    known_shown index s number =
+        halt_shown st index s tokens (said index s number).1 steps.prefix halt (sym prefix)
+        (judged index s number) (there index s number) lines (listed_there index s number) text
+        laid
+
+    pub known_listed : halt.rule ≡ None → (b : Bool) → steps.prefix ≡ b
+        → OfProof st id (λ index s. IsListingText (take index st) s (judged_where b tokens) text)
+    known_listed none b is index s number =
+        subst (λ (c : Bool). IsListingText (take index st) s (judged_where c tokens) text) is
+        (halt_listed st index s tokens (said index s number).1 steps.prefix halt (sym prefix)
+        (judged index s number) (there index s number) none lines (listed_there index s number)
+        text laid)
 
 -- ---- the theorem that was reached
 

@@ -26,7 +26,7 @@ use mm_base::File;
 use mm_explain::{Reached, judged_steps, push_head};
 use mm_facts::{cause_of, fault_place, push_cause, push_left_over};
 use mm_frame::{Book, LabelId};
-use mm_listing::halt_of;
+use mm_listing::{halt_of, lines_before};
 use mm_proof::Steps;
 use mm_render::text_of;
 use mm_rules::{LineCount, Rule, Status, refusal};
@@ -133,11 +133,12 @@ fn steps_reply(
         reply.text.items (number_of reply.status)) }
 {
     let halt = halt_of(alloc, &reached.book, reached.id, steps)?;
-    let lines = text_of(alloc, &reached.book, &halt.lines)?;
+    let before = lines_before(alloc, &reached.book, reached.id, steps, halt.passed)?;
+    let lines = text_of(alloc, &reached.book, &before)?;
     match halt.rule {
         Some(rule) => {
-            let step = halt.lines.len() + 1;
-            fault_reply(alloc, files, reached, tokens, lines, (rule, step))
+            let fault = (rule, halt.steps + 1);
+            fault_reply(alloc, files, reached, tokens, lines, fault)
         }
         None if steps.is_prefix() => {
             prefix_reply(alloc, &reached.book, reached.id, tokens, lines)

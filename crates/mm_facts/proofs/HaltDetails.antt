@@ -33,7 +33,6 @@ use Rattle.mm_step.proofs.ProofSteps.OneStep.{one_label}
 use Rattle.mm_base.proofs.Lists.{get_from_take}
 use Rattle.mm_step.specs.Tree.{Trees, none, tree, Names, DeriveAll}
 use Rattle.mm_step.specs.Moves.{Makes, steps_in, is_step}
-use Rattle.mm_listing.specs.Listing.{TellsStep}
 use Rattle.mm_step.specs.Proof.{BreaksStep}
 use Rattle.mm_step.proofs.ByNumbers.StepByAssertion.{label_of, names_of}
 use Rattle.mm_frame.specs.declared.hypothesis.Hypothesis.{Hypothesis}
@@ -396,12 +395,11 @@ kept_by before (mark ∷ moves) row row' kept kept' made =
 -- so many are kept, which are the moves that passed without the steps
 pub kept_count : (limit : ℕ) (st before : List Sentence) (s : Sentence) (prefix : Bool)
     (moves : List (Move (List ℕ))) (halt : Halt) (h : HaltsProof limit st before s prefix moves halt)
-    → length h.there.kept + length halt.lines.items ≡ halt.passed
+    → length h.there.kept + halt.steps ≡ halt.passed
 kept_count limit st before s prefix moves halt h =
     let all = kept_by before h.there.earlier none h.there.passed.trees [] h.there.passed.shelf h.there.passed.made in
     let shelf = zip_length (λ t e. DeriveAll (IsWithin limit) before t (e ∷ [])) h.there.passed.shelf h.there.kept h.there.passed.kept_derived in
-    let lines = zip_length (TellsStep st) halt.lines.items h.lines.0 h.lines.2 in
-    let steps = h.lines.1.count in
+    let steps = h.steps in
     let passed = h.count in
     omega arith
 

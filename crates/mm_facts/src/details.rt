@@ -275,7 +275,7 @@ fn push_halt(
     match halt.at {
         HaltAt::End => push_at_end(out, book, id, halt, rule),
         HaltAt::Label(label) => push_at_label(out, alloc, book, id, profile, halt, (label, rule)),
-        HaltAt::Tag(tag) => push_marks(out, tag, halt.passed - halt.lines.len()),
+        HaltAt::Tag(tag) => push_marks(out, tag, halt.passed - halt.steps),
         HaltAt::Mark => Ok(()),
     }
 }

@@ -2,6 +2,7 @@
 -- 4.1.4, 4.3 and 4.4.3, appendix B). What is told of it is this project's own.
 use Rattle.std.specs.Prelude.{◌≡◌, ℕ, ◌+◌, ◌-◌, ◌<◌, List, [], ◌∷◌, ◌++◌, length, slice_get, Some}
 use Rattle.std.specs.Prelude.{Bool, true, false, Option, None, ◌⊎◌}
+use Rattle.std.specs.List.{AllZip}
 use Rattle.mm_frame.specs.Sentence.{Sentence}
 use Rattle.mm_frame.specs.Numbers.{AreNumbers}
 use Rattle.mm_step.specs.declared.fault.ProofRule.{ProofRule}
@@ -13,7 +14,7 @@ use Rattle.mm_step.specs.Moves.{Move, name, again, mark, is_step, steps_in}
 use Rattle.mm_step.specs.Proof.{IsWithin, Passed, FirstAtMove}
 use Rattle.mm_proof.specs.Proof.{BreaksEnd}
 use Rattle.mm_step.specs.Steps.{IsNumberedMove}
-use Rattle.mm_listing.specs.Listing.{ListedStep, AreListed, AreLinesOf}
+use Rattle.mm_listing.specs.Listing.{ListedStep, AreListed}
 
 -- the moves passed, and left so many entries on the stack
 abbrev pub LeaveEntries : (Expression → Type 0) → List Sentence → List (Move (List ℕ)) → ℕ → Type 0
@@ -89,8 +90,9 @@ pub record HaltsProof (limit : ℕ) (statements : List Sentence) (before : List 
     (s : Sentence) (prefix : Bool) (moves : List (Move (List ℕ))) (halt : Halt) : Type 0 where
   pub there : Halts (IsWithin limit) before s prefix moves halt.rule
   pub count : halt.passed ≡ length there.earlier
+  pub steps : halt.steps ≡ steps_in there.earlier
   pub same_makers : halt.makers.items ≡ there.makers
-  pub lines : AreLinesOf statements before there.earlier halt.lines.items
+  pub entries : AllZip (AreNumbers statements) halt.entries there.stack
   pub place : StandsAtHalt statements there.left halt.at
 
 -- wherever the moves of a proof stop so, these are the numbers of the entry at an index of the

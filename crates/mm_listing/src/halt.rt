@@ -1,10 +1,11 @@
 //! Where the moves of a proof stop: what passed, what is left on the stack, and why no more passes.
 
-ghost use Rattle.std.specs.Prelude.{◌<◌, ◌≤◌, All, length};
+ghost use Rattle.std.specs.Prelude.{◌≡◌, ◌<◌, ◌^◌, length, slice_get, Some};
+ghost use Rattle.mm_step.specs.Stores.{numbers_in};
 
-use crate::lines::Line;
 use mm_frame::{LabelId, Sym};
-use mm_step::ProofRule;
+use mm_step::{Flat, ProofRule, Store};
+use std::marker::Model;
 
 /// What stands where the moves of a proof stop.
 #[derive(Clone, Copy, PartialEq, Eq, Debug)]
@@ -19,6 +20,39 @@ pub enum HaltAt {
     End,
 }
 
+/// The entries that moves leave on the stack, the lowest first. They stay in the store of the run,
+/// where copies of an expression have their symbols once.
+#[derive(Drop)]
+pub struct Entries {
+    store: Flat,
+}
+
+// They are seen as a list, by the numbers of their symbols.
+impl Model for Entries {
+    ghost use Rattle.std.specs.Prelude.{ℕ, List};
+
+    ghost Value = { List (List ℕ) };
+
+    ghost view = { λ entries. ⟦<Flat as Store>⟧.stack entries.store };
+}
+
+impl Entries {
+    /// The entries on the stack of a store.
+    pub(crate) fn new(store: Flat) -> Entries
+        ensures { result ≡ ⟦<Flat as Store>⟧.stack store }
+    {
+        Entries { store }
+    }
+
+    /// The entry at an index.
+    pub fn at(&self, index: usize) -> &[Sym]
+        requires { index < length self.now }
+        ensures { slice_get self.now index ≡ Some (numbers_in result.now) }
+    {
+        self.store.at(index)
+    }
+}
+
 /// Where the moves of a proof stop.
 #[derive(Drop)]
 pub struct Halt {
@@ -28,30 +62,25 @@ pub struct Halt {
     pub at: HaltAt,
     /// How many moves pass before it.
     pub passed: usize,
-    /// The steps among these, in order.
-    pub lines: Vec<Line>,
-    /// For each entry that they leave on the stack, the lowest first, the number of the step that
-    /// made it, from 1 on.
+    /// How many of these are steps.
+    pub steps: usize,
+    /// The entries that they leave on the stack.
+    pub entries: Entries,
+    /// For each of these the number of the step that made it, from 1 on.
     pub makers: Vec<usize>,
-    /// These are steps that have a line.
-    ghost made: { All (λ step. (0 < step) × (step ≤ length lines.items)) makers.items },
+    ghost made: { length entries ≡ length makers.items },
+    ghost few: { steps < 2 ^ 32 },
 }
 
 impl Halt {
-    ghost use Rattle.std.specs.Prelude.{◌≡◌, ◌-◌, ◌<◌, length, slice_get, slice_index, Some};
-    ghost use Rattle.mm_step.specs.Stores.{numbers_in};
-    ghost use Rattle.mm_listing.specs.declared.lines.Line.{Line};
     ghost use Rattle.mm_listing.specs.Halted.{TellsEntry};
 
-    /// The entry at an index of the stack that is left: what the step that made it is listed with.
+    /// The entry at an index of the stack that is left.
     pub fn entry(&self, index: usize) -> &[Sym]
         requires { index < length self.now.makers.items }
         ensures entry { TellsEntry self.now index (numbers_in result.now) }
-        ensures line { (line : Line) × (slice_get self.now.lines.items
-            (slice_index self.now.makers.items index - 1) ≡ Some line)
-            × (result.now ≡ line.expression.items) }
+        ensures numbers { slice_get self.now.entries index ≡ Some (numbers_in result.now) }
     {
-        let step = self.makers[index];
-        &self.lines[step - 1].expression
+        self.entries.at(index)
     }
 }

@@ -15,7 +15,7 @@ ghost use Rattle.mm_step.specs.Mirror.Sites.{IsSite};
 ghost use Rattle.mm_listing.specs.Mirror.StackMakers.{BreaksAfter};
 ghost use Rattle.mm_listing.specs.Mirror.CodeHalts.{StandsBy, HaltsMoves};
 
-use crate::halt::{Halt, HaltAt};
+use crate::halt::{Entries, Halt, HaltAt};
 use crate::makers::{Stop, track_codes};
 use mm_code::Code;
 use mm_frame::{Book, LabelId, Sym, one_number};
@@ -77,7 +77,8 @@ fn halt_at_move(
             rule: Some(rule),
             at: place(table.entries, &codes[passed]),
             passed,
-            lines: track.lines,
+            steps: track.steps,
+            entries: Entries::new(store),
             makers: track.makers,
         }),
         Err(Stop::Rule { .. }) => unreachable!(),
@@ -114,11 +115,15 @@ fn halt_in_frame(
                 rule,
                 at: HaltAt::End,
                 passed: codes.len(),
-                lines: track.lines,
+                steps: track.steps,
+                entries: Entries::new(store),
                 makers: track.makers,
             })
         }
-        Err(Stop::Rule { rule, passed }) => halt_at_move(alloc, table, codes, rule, passed),
+        Err(Stop::Rule { rule, passed }) => {
+            drop(store);
+            halt_at_move(alloc, table, codes, rule, passed)
+        }
         Err(Stop::Memory) => Err(AllocError),
     }
 }

@@ -1,6 +1,6 @@
 //! The listing of a proof: its steps, one a line (the Metamath book, section 4.3 and appendix B).
 
-ghost use Rattle.std.specs.Prelude.{◌≡◌, ◌-◌, ◌<◌, ◌^◌, ℕ, List, [], All, length, take};
+ghost use Rattle.std.specs.Prelude.{◌≡◌, ◌-◌, ◌<◌, ◌≤◌, ◌^◌, ℕ, List, [], All, length, take};
 ghost use Rattle.std.specs.Prelude.{slice_get, Some, Err, false};
 ghost use Rattle.std.specs.Prelude.{IfOk, IfErr, IsOkUnless};
 ghost use Rattle.std.specs.List.{AllByRecursion};
@@ -16,8 +16,10 @@ ghost use Rattle.mm_step.specs.Profiles.{limit_of};
 ghost use Rattle.mm_step.specs.Steps.{AreNumberedMoves, AreSteps};
 ghost use Rattle.mm_listing.specs.Listing.{AreLinesOf};
 ghost use Rattle.mm_proof.specs.Verified.{OfMoves};
+ghost use Rattle.mm_proof.specs.KnownPrefix.{Pass};
 ghost use Rattle.mm_proof.specs.Mirror.CodeSteps.{code_moves, moves_of};
 ghost use Rattle.mm_step.specs.Mirror.CodeRun.{MayBeMade, HasRun};
+ghost use Rattle.mm_step.specs.Mirror.Sites.{IsSite};
 ghost use Rattle.mm_listing.specs.Mirror.CodeLines.{AreLinesAt, BreaksAt, ListsProof, FaultsProof};
 
 use mm_code::Code;
@@ -260,4 +262,100 @@ pub fn listing(
         → IsUnlessMemory result (Err (ProofFault.Rule rule step))) }
 {
     lines_of_proof(alloc, book, id, &steps.entries, &steps.codes, steps.profile)
+}
+
+// The lines of the steps among so many first moves, which pass.
+fn lines_of_front(
+    alloc: Global,
+    table: &CallTable,
+    codes: &[Code],
+    passed: usize,
+) -> Result<Vec<Line>, AllocError>
+    requires site { IsSite table.now.site }
+    requires spelled { All HasSpelling codes.now }
+    requires room { length codes.now < 2 ^ 32 }
+    requires within { passed ≤ length codes.now }
+    requires steps { let site = table.now.site in
+        AreSteps site.statements site.number (code_moves table.now.ids codes.now) }
+    requires pass { let site = table.now.site in
+        OfMoves site.statements site.number (code_moves table.now.ids codes.now)
+        (λ index s moves.
+        Pass (IsWithin site.limit) (take index site.statements) (take passed moves)) }
+    ensures { let site = table.now.site in IfOk result (λ lines.
+        OfMoves site.statements site.number (code_moves table.now.ids codes.now)
+        (λ index s moves. AreLinesOf site.statements (take index site.statements)
+        (take passed moves) lines.items)) }
+{
+    let mut store = Flat::new(alloc);
+    match lines_of(alloc, &mut store, table, &codes[..passed]) {
+        Ok(lines) => Ok(lines),
+        Err(ProofFault::Memory) => Err(AllocError),
+        // These moves pass.
+        Err(ProofFault::Rule { .. }) => unreachable!(),
+    }
+}
+
+// The lines of the steps among so many first moves that the codes say.
+fn lines_of_first_codes(
+    alloc: Global,
+    book: &Book,
+    id: LabelId,
+    entries: &[LabelId],
+    codes: &[Code],
+    profile: Profile,
+    passed: usize,
+) -> Result<Vec<Line>, AllocError>
+    requires spelled { All HasSpelling codes.now }
+    requires room { length codes.now < 2 ^ 32 }
+    requires within { passed ≤ length codes.now }
+    requires steps { AreSteps book.now.statements id.0 (moves_of entries.now codes.now) }
+    requires pass { OfMoves book.now.statements id.0 (moves_of entries.now codes.now)
+        (λ index s moves. Pass (IsWithin (limit_of profile)) (take index book.now.statements)
+        (take passed moves)) }
+    ensures { IfOk result (λ lines.
+        OfMoves book.now.statements id.0 (moves_of entries.now codes.now)
+        (λ index s moves. AreLinesOf book.now.statements (take index book.now.statements)
+        (take passed moves) lines.items)) }
+{
+    let site = Site::new(book, id, profile);
+    let calls = calls_of(alloc, book, entries)?;
+    let table = CallTable {
+        site,
+        entries,
+        calls: &calls,
+    };
+    lines_of_front(alloc, &table, codes, passed)
+}
+
+/// The steps among so many first moves of the `$p` with this number, which pass, in order, as
+/// `listing` tells them.
+///
+/// # Errors
+///
+/// Where a growth was refused.
+pub fn lines_before(
+    alloc: Global,
+    book: &Book,
+    id: LabelId,
+    steps: &Steps,
+    passed: usize,
+) -> Result<Vec<Line>, AllocError>
+    requires steps { AreSteps book.now.statements id.0 steps.now.moves }
+    requires within { passed ≤ length steps.now.moves }
+    requires pass { OfMoves book.now.statements id.0 steps.now.moves
+        (λ index s moves. Pass (IsWithin (limit_of steps.now.profile))
+        (take index book.now.statements) (take passed moves)) }
+    ensures listed { IfOk result (λ lines. OfMoves book.now.statements id.0 steps.now.moves
+        (λ index s moves. AreLinesOf book.now.statements (take index book.now.statements)
+        (take passed moves) lines.items)) }
+{
+    lines_of_first_codes(
+        alloc,
+        book,
+        id,
+        &steps.entries,
+        &steps.codes,
+        steps.profile,
+        passed,
+    )
 }

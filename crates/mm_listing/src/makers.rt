@@ -1,5 +1,4 @@
-//! The run of a proof's moves that lists its steps, and tells which of them made the entries of the
-//! stack.
+//! The run of a proof's moves that tells which steps made the entries of the stack.
 
 ghost use Rattle.std.specs.Prelude.{◌≡◌, ◌-◌, ◌<◌, ◌≤◌, ◌^◌, ℕ, List, [], ◌∷◌, ◌++◌};
 ghost use Rattle.std.specs.Prelude.{All, length, take, Err, IfOk, OnOk};
@@ -11,10 +10,8 @@ ghost use Rattle.mm_step.specs.Moves.{Move};
 ghost use Rattle.mm_step.specs.Steps.{AreNumberedMoves};
 ghost use Rattle.mm_proof.specs.Mirror.CodeSteps.{code_moves};
 ghost use Rattle.mm_step.specs.Mirror.CodeRun.{MayBeMade, HasRun};
-ghost use Rattle.mm_listing.specs.Mirror.CodeLines.{AreLinesAt};
 ghost use Rattle.mm_listing.specs.Mirror.StackMakers.{AreMakersAt, BreaksAfter, stop_after};
 
-use crate::lines::{Line, Lister};
 use mm_code::Code;
 use mm_proof::machine::run;
 use mm_proof::{Judge, Machine};
@@ -53,8 +50,8 @@ fn stop_for(fault: ProofFault, passed: usize) -> Stop
 /// What moves that passed have made.
 #[derive(Drop)]
 pub(crate) struct Track {
-    /// Their steps.
-    pub(crate) lines: Vec<Line>,
+    /// How many of them are steps.
+    pub(crate) steps: usize,
     /// For each entry of the stack, the number of the step that made it.
     pub(crate) makers: Vec<usize>,
 }
@@ -73,11 +70,11 @@ pub(crate) fn put_maker<S: Store>(
     put_last(makers, judge.store.len() - 1, judge.steps)
 }
 
-// What lists moves, and knows which steps made the entries of the stack.
+/// What judges moves, and knows which steps made the entries of the stack.
 #[derive(Drop)]
-struct Tracker<'s, 'e, 'b, 'a, S> {
-    lister: Lister<'s, 'e, 'b, 'a, S>,
-    makers: &'s mut Vec<usize>,
+pub(crate) struct Tracker<'s, 'e, 'b, 'a, S> {
+    pub(crate) judge: Judge<'s, 'e, 'b, 'a, S>,
+    pub(crate) makers: &'s mut Vec<usize>,
 }
 
 impl<'s, 'e, 'b, 'a, S: Store> Tracker<'s, 'e, 'b, 'a, S> {
@@ -85,34 +82,34 @@ impl<'s, 'e, 'b, 'a, S: Store> Tracker<'s, 'e, 'b, 'a, S> {
 
     // How many moves have passed.
     fn passed(&self) -> usize
-        requires { self.now.lister.judge.steps + self.now.lister.judge.kept < 2 ^ 64 }
-        ensures { result ≡ self.now.lister.judge.steps + self.now.lister.judge.kept }
+        requires { self.now.judge.steps + self.now.judge.kept < 2 ^ 64 }
+        ensures { result ≡ self.now.judge.steps + self.now.judge.kept }
     {
-        self.lister.judge.steps + self.lister.judge.kept
+        self.judge.steps + self.judge.kept
     }
 }
 
-// It stops where the lister does.
+// It stops where the judge does.
 impl<'s, 'e, 'b, 'a, S: Store> Machine for Tracker<'s, 'e, 'b, 'a, S> {
     ghost use Rattle.mm_listing.specs.Mirror.StackMakers.{HasTracked, MayBeTracked, StopsAfter};
 
     type Fault = Stop;
 
-    ghost entries = { λ first. first.lister.judge.table.now.ids };
+    ghost entries = { λ first. first.judge.table.now.ids };
 
     ghost has_run = { HasTracked S.stack S.kept };
 
     ghost may_take = { λ first prefix move.
-        MayBeTracked first.lister.judge.table.now.site prefix move };
+        MayBeTracked first.judge.table.now.site prefix move };
 
     ghost stops = { λ first prefix move fault.
-        StopsAfter first.lister.judge.table.now.site prefix move fault };
+        StopsAfter first.judge.table.now.site prefix move fault };
 
     fn step(&mut self, index: usize) -> Result<(), Stop> {
         let passed = self.passed();
-        match self.lister.step(index) {
+        match self.judge.step(index) {
             Ok(()) => {
-                put_maker(&self.lister.judge, self.makers)?;
+                put_maker(&self.judge, self.makers)?;
                 Ok(())
             }
             Err(fault) => Err(stop_for(fault, passed)),
@@ -121,9 +118,9 @@ impl<'s, 'e, 'b, 'a, S: Store> Machine for Tracker<'s, 'e, 'b, 'a, S> {
 
     fn step_again(&mut self, tag: usize) -> Result<(), Stop> {
         let passed = self.passed();
-        match self.lister.step_again(tag) {
+        match self.judge.step_again(tag) {
             Ok(()) => {
-                put_maker(&self.lister.judge, self.makers)?;
+                put_maker(&self.judge, self.makers)?;
                 Ok(())
             }
             Err(fault) => Err(stop_for(fault, passed)),
@@ -132,7 +129,7 @@ impl<'s, 'e, 'b, 'a, S: Store> Machine for Tracker<'s, 'e, 'b, 'a, S> {
 
     fn mark(&mut self) -> Result<(), Stop> {
         let passed = self.passed();
-        match self.lister.mark() {
+        match self.judge.mark() {
             Ok(()) => Ok(()),
             Err(fault) => Err(stop_for(fault, passed)),
         }
@@ -153,16 +150,13 @@ pub(crate) fn track_codes<S: Store>(
         (code_moves table.now.ids codes.now) }
     requires names { (names : List (Move (List ℕ)))
         × AreNumberedMoves table.now.site.statements (code_moves table.now.ids codes.now) names }
-    requires room { length codes.now < 2 ^ 32 }
     requires stack { S.stack store.old ≡ [] }
     requires kept { S.kept store.old ≡ [] }
     ensures run { let site = table.now.site in
         IfOk result (λ track. HasRun site.limit site.statements site.index
         (code_moves table.now.ids codes.now) (S.stack store.new) (S.kept store.new)
-        (length track.lines.items)) }
-    ensures lines { let site = table.now.site in
-        IfOk result (λ track. AreLinesAt site.statements site.index
-        (code_moves table.now.ids codes.now) track.lines.items) }
+        track.steps) }
+    ensures count { IfOk result (λ track. track.steps ≤ length codes.now) }
     ensures makers { let site = table.now.site in
         IfOk result (λ track. AreMakersAt site.limit site.statements site.index
         (code_moves table.now.ids codes.now) (S.stack store.new) track.makers.items) }
@@ -172,8 +166,6 @@ pub(crate) fn track_codes<S: Store>(
     let count = table.entries.len();
     let mut marks = Vec::new(alloc);
     unmark(&mut marks, count)?;
-    let mut lines = Vec::new(alloc);
-    let mut tags = Vec::new(alloc);
     let mut makers = Vec::new(alloc);
     let judge = Judge {
         store,
@@ -182,16 +174,11 @@ pub(crate) fn track_codes<S: Store>(
         steps: 0,
         kept: 0,
     };
-    let lister = Lister {
-        alloc,
-        judge,
-        lines: &mut lines,
-        tags: &mut tags,
-    };
     let mut tracker = Tracker {
-        lister,
+        judge,
         makers: &mut makers,
     };
     run(&mut tracker, count, codes)?;
-    Ok(Track { lines, makers })
+    let steps = tracker.judge.steps;
+    Ok(Track { steps, makers })
 }

@@ -1,42 +1,39 @@
 -- Where the moves of a proof stop: what is found there by numbers is so by names.
-use Rattle.std.proofs.Common.{◌≡◌, ℕ, suc, ◌-◌, ◌<◌, ◌≤◌, List, [], ◌∷◌, length, take, drop}
-use Rattle.std.proofs.Common.{slice_get, get_or, Some, None, Option, Bool, true, false, inl, inr}
-use Rattle.std.proofs.Common.{refl, sym, ap, subst, ◌∙◌, arith, append-nil, option_map, All}
-use Rattle.std.specs.List.{AllByRecursion}
-use Rattle.std.proofs.lemmas.Option.{slice_get_within, slice_get-map, same_Some, slice_get-get_or}
+use Rattle.std.proofs.Common.{◌≡◌, ℕ, suc, ◌-◌, ◌<◌, List, [], ◌∷◌, length, take, drop}
+use Rattle.std.proofs.Common.{slice_get, Some, None, Option, Bool, true, false, inl, inr}
+use Rattle.std.proofs.Common.{refl, sym, ap, subst, ◌∙◌, arith, append-nil, option_map}
+use Rattle.std.specs.List.{AllByRecursion, AllZip}
+use Rattle.std.proofs.lemmas.Option.{slice_get_within, slice_get-map, same_Some}
 use Rattle.std.proofs.lemmas.List.{length-take-le, length-map, take-map}
 use Rattle.std.proofs.lemmas.Slice.Zip.{AllZip-long}
-use Rattle.mm_base.proofs.Lists.{split_at, all_at, all_there, get_from_take, zip_left, zip_take}
+use Rattle.mm_base.proofs.Lists.{split_at, all_at, all_there, all_weaker, get_from_take, zip_left}
+use Rattle.mm_base.proofs.Lists.{zip_take}
 use Rattle.mm_code.specs.declared.code.Code.{Code}
 use Rattle.mm_frame.specs.Sentence.{Sentence}
 use Rattle.mm_frame.specs.Rules.{AllMeant}
-use Rattle.mm_frame.specs.Numbers.{AreNumbers}
+use Rattle.mm_frame.specs.Numbers.{AreNumbers, symbols_of}
 use Rattle.mm_frame.specs.FrameIndex.{AreItsSymbols}
 use Rattle.mm_frame.specs.Laws.{OneNumber}
 use Rattle.mm_frame.proofs.Rules.ObeyedRules.{allmeant_prefix}
 use Rattle.mm_step.specs.declared.fault.ProofRule.{ProofRule}
-use Rattle.mm_listing.specs.declared.lines.Line.{Line}
 use Rattle.mm_listing.specs.declared.halt.Halt.{Halt}
 use Rattle.mm_listing.specs.declared.halt.HaltAt.{HaltAt}
 use Rattle.mm_listing.specs.declared.halt.HaltAt.TheVariants as at
-use Rattle.mm_step.specs.Moves.{Move, name, again, mark, steps_in}
+use Rattle.mm_step.specs.Moves.{Move, name, again, mark}
 use Rattle.mm_step.specs.Proof.{IsWithin, FirstAtMove, Passed}
 use Rattle.mm_step.specs.Steps.{IsNumberedMove, AreNumberedMoves, AreSteps}
-use Rattle.mm_step.specs.Stores.{numbers_in}
-use Rattle.mm_listing.specs.Listing.{ListedStep, TellsStep}
 use Rattle.mm_listing.specs.Halted.{StopsWith, StandsAtHalt, HaltsProof, TellsEntry}
 use Rattle.mm_proof.specs.Mirror.CodeSteps.{code_move, code_moves}
 use Rattle.mm_step.specs.Mirror.CodeVerify.{all_names_at, names_at, AreBelow, AreStackEntries}
+use Rattle.mm_step.specs.Mirror.CodeVerify.{IsSymbol}
 use Rattle.mm_step.specs.Mirror.CodeRun.{MayBeMade, HasRun}
-use Rattle.mm_listing.specs.Mirror.CodeLines.{AreLinesAt}
 use Rattle.mm_step.specs.Mirror.Sites.{ProofSite, IsSite}
 use Rattle.mm_listing.specs.Mirror.StackMakers.{AreMakersAt, BreaksAfter}
 use Rattle.mm_listing.specs.Mirror.CodeHalts.{StandsBy, IsEndRule, HaltsMoves}
 use Rattle.mm_step.proofs.ByNumbers.OneIndex.{one_index}
 use Rattle.mm_proof.proofs.ProofVerdicts.PassedMoves.{passed_once, no_fault_within}
-use Rattle.mm_proof.proofs.ProofVerdicts.FirstFault.{steps_in-append}
+use Rattle.mm_proof.proofs.ProofNumbers.NumbersNamed.{numbers_named}
 use Rattle.mm_proof.proofs.ProofVerdicts.JudgedMoves.{steps_made, same_steps, its_symbols, end_broken}
-use Rattle.mm_listing.proofs.Machines.ListedLines.{one_step}
 
 -- ---- the moves before the place
 
@@ -121,6 +118,19 @@ stands st (again tag) (at.Tag halted) move later is n = rw n is
 stands st mark at.Mark move later is n = rw n tt
 stands st x halted move later is n = absurd is
 
+-- ---- the entries
+
+-- they are the numbers of their names
+entries_numbered : (st before : List Sentence) (stack : List (List ℕ))
+    → AreStackEntries st before stack → AllZip (AreNumbers st) stack (all_names_at st stack)
+entries_numbered st before [] entries = tt
+entries_numbered st before (e ∷ stack) entries = (
+  numbers_named st e
+      (all_weaker (IsSymbol st before) (λ k. k < length (symbols_of st)) (λ k i. i.below) e
+      entries.0),
+  entries_numbered st before stack entries.1,
+)
+
 -- ---- a move that breaks a rule
 
 -- those before the place, as codes
@@ -137,12 +147,12 @@ module _ (site : ProofSite) (xs : List (Move ℕ)) (stack kept : List (List ℕ)
     (halt : Halt) (own : IsSite site) where
   halts_move : (rule : ProofRule) → (broken : BreaksAfter site xs rule halt.passed)
       → HasRun site.limit site.statements site.index (take halt.passed xs) stack kept count
-      → AreLinesAt site.statements site.index (take halt.passed xs) halt.lines.items
+      → halt.steps ≡ count → halt.entries ≡ stack
       → AreMakersAt site.limit site.statements site.index (take halt.passed xs) stack
       halt.makers.items
       → StandsBy broken.move halt.at → halt.rule ≡ Some rule
       → (prefix : Bool) → HaltsMoves site.limit site.statements site.number prefix xs halt
-  halts_move rule broken run lines makers place is prefix index s names proof numbered =
+  halts_move rule broken run steps entries makers place is prefix index s names proof numbered =
       let st = site.statements in
       let n : ℕ = halt.passed in
       let here : site.index ≡ index =
@@ -178,8 +188,9 @@ module _ (site : ProofSite) (xs : List (Move ℕ)) (stack kept : List (List ℕ)
               (all_names_at st stack) (all_names_at st kept) (move.0 ∷ later) r) (sym is) fault;
         };
         count = sym (length-take-le n names (omega (arith, within)));
+        steps = steps ∙ run.count ∙ same_steps st (take n xs) earlier front;
         same_makers = refl;
-        lines = lines earlier front;
+        entries = rw entries (entries_numbered st before stack run.entries);
         place = stands st broken.move halt.at move.0 later place move.2;
       })
 
@@ -203,12 +214,12 @@ module _ (site : ProofSite) (xs : List (Move ℕ)) (stack kept : List (List ℕ)
   pub halts_end : (numbers : List ℕ) (prefix : Bool) → OneNumber
       → AreItsSymbols (record { statements = site.statements; index = site.index }) numbers
       → HasRun site.limit site.statements site.index xs stack kept count
-      → AreLinesAt site.statements site.index xs halt.lines.items
+      → halt.steps ≡ count → halt.entries ≡ stack
       → AreMakersAt site.limit site.statements site.index xs stack halt.makers.items
       → IsEndRule prefix halt.rule stack numbers → halt.at ≡ at.End → halt.passed ≡ length xs
       → HaltsMoves site.limit site.statements site.number prefix xs halt
-  halts_end numbers prefix one symbols run lines makers end place passed index s names proof
-      numbered =
+  halts_end numbers prefix one symbols run steps entries makers end place passed index s names
+      proof numbered =
       let st = site.statements in
       let here : site.index ≡ index =
       one_index st site.number site.index index own.s s own.proof.numbered proof.numbered in
@@ -228,8 +239,10 @@ module _ (site : ProofSite) (xs : List (Move ℕ)) (stack kept : List (List ℕ)
               end;
         };
         count = passed ∙ sym (AllZip-long (IsNumberedMove st) xs names numbered);
+        steps = steps ∙ run.count ∙ same_steps st xs names numbered;
         same_makers = refl;
-        lines = lines names numbered;
+        entries = rw entries
+            (entries_numbered st (take site.index st) stack run.entries);
         place = place;
       })
 
@@ -239,16 +252,15 @@ pub halts_code : (site : ProofSite) (ids : List ℕ) (said : List Code) (code : 
     → BreaksAfter site (code_moves ids said) rule halt.passed
     → HasRun site.limit site.statements site.index (code_moves ids (take halt.passed said)) stack
     kept count
-    → AreLinesAt site.statements site.index (code_moves ids (take halt.passed said))
-    halt.lines.items
+    → halt.steps ≡ count → halt.entries ≡ stack
     → AreMakersAt site.limit site.statements site.index (code_moves ids (take halt.passed said))
     stack halt.makers.items
     → slice_get said halt.passed ≡ Some code → StandsBy (code_move ids code) halt.at
     → halt.rule ≡ Some rule
     → (prefix : Bool)
     → HaltsMoves site.limit site.statements site.number prefix (code_moves ids said) halt
-halts_code site ids said code stack kept count halt rule own broken run lines makers there place
-    is =
+halts_code site ids said code stack kept count halt rule own broken run steps entries makers there
+    place is =
     let n : ℕ = halt.passed in
     let f = code_move ids in
     let xs = code_moves ids said in
@@ -258,42 +270,22 @@ halts_code site ids said code stack kept count halt rule own broken run lines ma
     (sym (slice_get-map f said n ∙ ap (option_map f) there) ∙ broken.there) in
     halts_move site xs stack kept count halt own rule broken
     (subst (λ l. HasRun site.limit site.statements site.index l stack kept count) front run)
-    (subst (λ l. AreLinesAt site.statements site.index l halt.lines.items) front lines)
+    steps entries
     (subst (λ l. AreMakersAt site.limit site.statements site.index l stack halt.makers.items) front
     makers)
     (subst (λ m. StandsBy m halt.at) move place) is
 
 -- ---- the entries that are left
 
--- the steps that made them are among those that there are
-pub makers_within : (limit : ℕ) (st : List Sentence) (index : ℕ) (xs : List (Move ℕ))
-    (stack kept : List (List ℕ)) (count : ℕ) (makers : List ℕ)
-    → HasRun limit st index xs stack kept count → AreMakersAt limit st index xs stack makers
-    → (names : List (Move (List ℕ))) × AreNumberedMoves st xs names
-    → All (λ step. (0 < step) × (step ≤ count)) makers
-makers_within limit st index xs stack kept count makers run made names k d less =
-    let m = (made names.0 names.1).each k (get_or makers k d) (slice_get-get_or makers k d less) in
-    let whole = ap steps_in m.parts in
-    let parts = steps_in-append m.earlier (m.move ∷ m.later) in
-    let one = steps_in-append (m.move ∷ []) m.later in
-    let is = one_step m.move m.step_made in
-    let same = same_steps st xs names.0 names.1 in (
-      omega (arith, m.number),
-      omega (arith, m.number, whole, parts, one, is, same, run.count),
-    )
+-- as many as steps that made them
+pub makers_count : (limit : ℕ) (st : List Sentence) (index : ℕ) (xs : List (Move ℕ))
+    (stack : List (List ℕ)) (makers : List ℕ) → AreMakersAt limit st index xs stack makers
+    → (names : List (Move (List ℕ))) × AreNumberedMoves st xs names → length stack ≡ length makers
+makers_count limit st index xs stack makers made names =
+    sym ((made names.0 names.1).count ∙ length-map stack (names_at st))
 
--- what the line of its step has is the entry
-pub entry_told : (halt : Halt) (index step : ℕ) (line : Line)
-    → slice_get halt.makers.items index ≡ Some step
-    → slice_get halt.lines.items (step - 1) ≡ Some line
-    → TellsEntry halt index (numbers_in line.expression.items)
-entry_told halt index step line maker there limit statements before s prefix moves h =
-    let numbers = numbers_in line.expression.items in
-    let g = h.there.made.given h.lines.0 h.lines.1 index step
-    (subst (λ l. slice_get l index ≡ Some step) h.same_makers maker) in
-    let z = zip_left (TellsStep statements) halt.lines.items h.lines.0 (step - 1) line h.lines.2
-    there in
-    let same : z.0 ≡ g.0 = same_Some z.0 g.0 (sym z.1 ∙ g.1) in
-    let pushed = subst (λ (l : ListedStep). AreNumbers statements numbers l.expression) same
-    z.2.pushed in
-    (g.0.expression, g.2, pushed)
+-- its numbers tell an entry
+pub entry_told : (halt : Halt) (index : ℕ) (numbers : List ℕ)
+    → slice_get halt.entries index ≡ Some numbers → TellsEntry halt index numbers
+entry_told halt index numbers there limit statements before s prefix moves h =
+    zip_left (AreNumbers statements) halt.entries h.there.stack index numbers h.entries there

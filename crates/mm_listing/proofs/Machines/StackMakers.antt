@@ -14,7 +14,6 @@ use Rattle.mm_frame.specs.Rules.{AllMeant}
 use Rattle.mm_step.specs.declared.fault.ProofRule.{ProofRule}
 use Rattle.mm_step.specs.declared.fault.ProofFault.{ProofFault}
 use Rattle.mm_step.specs.declared.fault.ProofFault.TheVariants as faults
-use Rattle.mm_listing.specs.declared.lines.Lister.{Lister}
 use Rattle.mm_listing.specs.declared.makers.Stop.{Stop}
 use Rattle.mm_listing.specs.declared.makers.Stop.TheVariants as stops
 use Rattle.mm_listing.specs.declared.makers.Tracker.{Tracker}
@@ -28,8 +27,8 @@ use Rattle.mm_listing.specs.Listing.{ListedStep, MakeLast, AreListed}
 use Rattle.mm_listing.specs.Halted.{IsMadeBy, AreMakers}
 use Rattle.mm_step.specs.Mirror.CodeVerify.{names_at, all_names_at}
 use Rattle.mm_step.specs.Mirror.CodeRun.{HasRun}
-use Rattle.mm_listing.specs.Mirror.CodeLines.{HasListed}
-use Rattle.mm_proof.specs.Mirror.Judges.{BreaksRun}
+use Rattle.mm_proof.specs.declared.judge.Judge.{Judge}
+use Rattle.mm_proof.specs.Mirror.Judges.{HasJudged, BreaksRun}
 use Rattle.mm_step.specs.Mirror.Sites.{ProofSite}
 use Rattle.mm_listing.specs.Mirror.StackMakers.{stop_after, StopsAfter, BreaksAfter, AreMakersAt}
 use Rattle.mm_listing.specs.Mirror.StackMakers.{HasTracked}
@@ -399,62 +398,70 @@ module _ (limit : ℕ) (st : List Sentence) (index : ℕ) (prefix : List (Move �
 
 module _ {S : Type 0} (stack kept : S → List (List ℕ)) (first : Tracker S) where
   -- before any move
-  pub tracks_none : HasListed stack kept first.lister first.lister []
-      → stack first.lister.judge.store.now ≡ [] → first.makers.now.items ≡ []
+  pub tracks_none : HasJudged stack kept first.judge first.judge []
+      → stack first.judge.store.now ≡ [] → first.makers.now.items ≡ []
       → HasTracked stack kept first first []
-  tracks_none listed empty makers =
-      let site = first.lister.judge.table.now.site in
+  tracks_none judged empty makers =
+      let site = first.judge.table.now.site in
       record {
         same_makers = refl;
-        listed = listed;
+        judged = judged;
         made = rw (empty, makers) (makers_at_none site.limit site.statements site.index);
       }
 
   module _ (old : Tracker S) (prefix : List (Move ℕ))
-      (all : let site = first.lister.judge.table.now.site in
+      (all : let site = first.judge.table.now.site in
       AllMeant (take site.index site.statements))
       (was : HasTracked stack kept first old prefix) where
     -- a step
     pub tracks_step : (new : Tracker S) (x : Move ℕ) → is_step x ≡ true
-        → HasListed stack kept first.lister new.lister (prefix ++ x ∷ [])
+        → HasJudged stack kept first.judge new.judge (prefix ++ x ∷ [])
         → new.makers.ghost_name ≡ old.makers.ghost_name
         → new.makers.now.items
-        ≡ take (length (stack new.lister.judge.store.now) - 1) old.makers.now.items
-        ++ new.lister.judge.steps ∷ []
+        ≡ take (length (stack new.judge.store.now) - 1) old.makers.now.items
+        ++ new.judge.steps ∷ []
         → HasTracked stack kept first new (prefix ++ x ∷ [])
-    tracks_step new x is listed same makers =
-        let site = first.lister.judge.table.now.site in
+    tracks_step new x is judged same makers =
+        let site = first.judge.table.now.site in
         record {
           same_makers = same ∙ was.same_makers;
-          listed = listed;
+          judged = judged;
           made = rw makers (makers_at_step site.limit site.statements site.index prefix _ _ _ _ _ _
-              old.makers.now.items all was.listed.judged.run was.made x is listed.judged.run);
+              old.makers.now.items all was.judged.run was.made x is judged.run);
         }
 
     -- a mark
     pub tracks_mark : (new : Tracker S)
-        → HasListed stack kept first.lister new.lister (prefix ++ mark ∷ [])
+        → HasJudged stack kept first.judge new.judge (prefix ++ mark ∷ [])
         → new.makers ≡ old.makers → HasTracked stack kept first new (prefix ++ mark ∷ [])
-    tracks_mark new listed same =
-        let site = first.lister.judge.table.now.site in
+    tracks_mark new judged same =
+        let site = first.judge.table.now.site in
         record {
           same_makers = rw same was.same_makers;
-          listed = listed;
+          judged = judged;
           made = rw same (makers_at_mark site.limit site.statements site.index prefix _ _ _ _ _ _
-              old.makers.now.items all was.listed.judged.run was.made listed.judged.run);
+              old.makers.now.items all was.judged.run was.made judged.run);
         }
 
     -- what a step leaves
-    pub maker_stands : (now : Lister S) (x : Move ℕ) → is_step x ≡ true
-        → HasListed stack kept first.lister now (prefix ++ x ∷ [])
+    pub maker_stands : (now : Judge S) (x : Move ℕ) → is_step x ≡ true
+        → HasJudged stack kept first.judge now (prefix ++ x ∷ [])
         → (names : List (Move (List ℕ)))
-        × AreNumberedMoves first.lister.judge.table.now.site.statements (prefix ++ x ∷ []) names
-        → (0 < length (stack now.judge.store.now))
-        × (length (stack now.judge.store.now) - 1 ≤ length old.makers.now.items)
-    maker_stands now x is listed named =
-        let site = first.lister.judge.table.now.site in
+        × AreNumberedMoves first.judge.table.now.site.statements (prefix ++ x ∷ []) names
+        → (0 < length (stack now.store.now))
+        × (length (stack now.store.now) - 1 ≤ length old.makers.now.items)
+    maker_stands now x is judged named =
+        let site = first.judge.table.now.site in
         leaves_last site.limit site.statements site.index prefix _ _ _ _ _ _ old.makers.now.items
-        all was.listed.judged.run was.made x is listed.judged.run named.0 named.1
+        all was.judged.run was.made x is judged.run named.0 named.1
+
+-- all moves have run
+pub tracked_run : {S : Type 0} (stack kept : S → List (List ℕ)) (first now : Tracker S)
+    (prefix : List (Move ℕ)) → HasTracked stack kept first now prefix
+    → let site = first.judge.table.now.site in
+    HasRun site.limit site.statements site.index prefix (stack now.judge.store.now)
+    (kept now.judge.store.now) now.judge.steps
+tracked_run stack kept first now prefix tracked = tracked.judged.run
 
 -- the same steps made the same entries
 pub same_makers : (limit : ℕ) (st : List Sentence) (index : ℕ) (prefix : List (Move ℕ))

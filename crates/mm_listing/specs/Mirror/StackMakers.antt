@@ -1,5 +1,5 @@
 -- What the code that tells where moves stop knows on its way: it mirrors the code.
-use Rattle.std.specs.Prelude.{◌≡◌, ℕ, List, take, length, slice_get, Some}
+use Rattle.std.specs.Prelude.{◌≡◌, ℕ, List, [], ◌∷◌, ◌++◌, take, length, slice_get, Some}
 use Rattle.mm_frame.specs.Sentence.{Sentence}
 use Rattle.mm_frame.specs.Rules.{AllMeant}
 use Rattle.mm_step.specs.declared.fault.ProofRule.{ProofRule}
@@ -13,8 +13,8 @@ use Rattle.mm_step.specs.Proof.{IsWithin}
 use Rattle.mm_step.specs.Steps.{AreNumberedMoves}
 use Rattle.mm_listing.specs.Halted.{AreMakers}
 use Rattle.mm_step.specs.Mirror.CodeVerify.{all_names_at}
-use Rattle.mm_listing.specs.Mirror.CodeLines.{HasListed, MayBeListed}
-use Rattle.mm_proof.specs.Mirror.Judges.{BreaksRun}
+use Rattle.mm_step.specs.Mirror.CodeRun.{MayBeMade}
+use Rattle.mm_proof.specs.Mirror.Judges.{HasJudged, BreaksRun}
 use Rattle.mm_step.specs.Mirror.Sites.{ProofSite}
 
 -- why the move after so many doesn't pass, where this is its fault
@@ -45,16 +45,20 @@ AreMakersAt limit statements index prefix stack makers =
     → AreMakers (IsWithin limit) (take index statements) moves (all_names_at statements stack)
     makers
 
--- the moves are listed since the first state, and these steps made the entries of the stack
+-- the moves are judged since the first state, and these steps made the entries of the stack
 pub record HasTracked {S : Type 0} (stack kept : S → List (List ℕ)) (first now : Tracker S)
     (prefix : List (Move ℕ)) : Type 0 where
   pub same_makers : now.makers.ghost_name ≡ first.makers.ghost_name
-  pub listed : HasListed stack kept first.lister now.lister prefix
-  pub made : let site = first.lister.judge.table.now.site in
+  pub judged : HasJudged stack kept first.judge now.judge prefix
+  pub made : let site = first.judge.table.now.site in
       AreMakersAt site.limit site.statements site.index prefix
-      (stack now.lister.judge.store.now) now.makers.now.items
+      (stack now.judge.store.now) now.makers.now.items
 
--- the move may be listed after these, and the statements before the `$p` break no rule of meaning
+-- the move may be made after these, which stand for names, and the statements before the `$p` break
+-- no rule of meaning
 abbrev pub MayBeTracked : ProofSite → List (Move ℕ) → Move ℕ → Type 0
 MayBeTracked site prefix move =
-    MayBeListed site prefix move × AllMeant (take site.index site.statements)
+    MayBeMade site.statements site.index move
+    × ((names : List (Move (List ℕ)))
+    × AreNumberedMoves site.statements (prefix ++ move ∷ []) names)
+    × AllMeant (take site.index site.statements)

@@ -1,5 +1,5 @@
 -- What stands where the moves stop tells which of them are left.
-use Rattle.std.proofs.Common.{[], ◌∷◌, ◌++◌, ◌+◌, ◌≡◌, refl, sym, subst, ◌∙◌, ap, List, ℕ, append-nil, arith, take, length, vec_len, rules, ◌-◌}
+use Rattle.std.proofs.Common.{[], ◌∷◌, ◌++◌, ◌+◌, ◌≡◌, refl, sym, subst, ◌∙◌, ap, List, ℕ, append-nil, arith, take, length, ◌-◌}
 use Rattle.std.proofs.lemmas.Result.{on_ok_weaker}
 use Rattle.mm_step.specs.Moves.{Move}
 use Rattle.mm_step.specs.Profiles.{limit_of}
@@ -11,8 +11,7 @@ pub overflow_sub-halt : goal.overflow_sub-halt
 overflow_sub-halt c =
     let halt = c.requires.halt in
     let count = kept_count (limit_of c.args.profile) c.args.book.now.statements (take halt.index c.args.book.now.statements) halt.s halt.prefix halt.moves c.args.halt.now halt.halts in
-    let long : vec_len c.args.halt.now.lines ≡ length c.args.halt.now.lines.items = search rules in
-    omega (arith, c.len.ensures)
+    omega (arith, count)
 
 pub returns-in-End : goal.returns-in-End
 returns-in-End c =
@@ -46,8 +45,7 @@ returns-in-Tag c =
     let tag = c.in-Tag.tag in
     let left = tag_left c.args.book.now.statements h.there.left c.args.halt.now.at tag c.in-Tag.is h.place in
     let count = kept_count (limit_of c.args.profile) c.args.book.now.statements (take index c.args.book.now.statements) s prefix moves c.args.halt.now h in
-    let long : vec_len c.args.halt.now.lines ≡ length c.args.halt.now.lines.items = search rules in
-    let kept : c.args.halt.now.passed - c.len.result ≡ length h.there.kept = omega (arith, c.len.ensures) in (
+    let kept : c.args.halt.now.passed - c.args.halt.now.steps ≡ length h.there.kept = omega (arith, count) in (
       mark_asked (tag + 1) (length h.there.kept) ∷ [],
       subst (λ (l : List (Move (List ℕ))). AreHaltDetails (limit_of c.args.profile) (take index c.args.book.now.statements) s h.there.stack h.there.kept
           h.there.makers l c.args.rule (mark_asked (tag + 1) (length h.there.kept) ∷ [])) (sym left.1) refl,

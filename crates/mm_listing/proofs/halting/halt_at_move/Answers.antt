@@ -1,9 +1,10 @@
 use Rattle.std.proofs.Common.{Err, refl, ap, arith}
+use Rattle.std.proofs.lemmas.List.{length-take-le}
 use Rattle.std.proofs.lemmas.Option.{slice_get-get_or}
 use Rattle.mm_code.specs.declared.code.Code.TheVariants.{Number}
 use Rattle.mm_step.specs.Mirror.Sites.{CodeSite}
 use Rattle.mm_listing.proofs.Machines.ProofHalts.{meant_before, front_made, front_named, place_there}
-use Rattle.mm_listing.proofs.Machines.ProofHalts.{no_earlier_code, halts_code, makers_within}
+use Rattle.mm_listing.proofs.Machines.ProofHalts.{no_earlier_code, halts_code, makers_count}
 use Rattle.mm_listing.proofs.halting.halt_at_move.Goals as goal
 
 pub track_codes-requires-clause-meant : goal.track_codes-requires-clause-meant
@@ -41,9 +42,19 @@ place-requires c =
 pub invariant_of-result : goal.invariant_of-result
 invariant_of-result c = record {
   made = let site = c.args.table.now.site in
-      makers_within site.limit site.statements site.index _ _ _ _ _ c.in-Ok.ensures.run
+      rw c.new.ensures (makers_count site.limit site.statements site.index _ _ _
       c.in-Ok.ensures.makers
-      (front_named c.args.table.now.ids c.args.codes.now c.args.passed site c.requires.steps);
+      (front_named c.args.table.now.ids c.args.codes.now c.args.passed site c.requires.steps));
+  few = omega (
+    arith,
+    c.in-Ok.ensures.count,
+    c.requires.room,
+    length-take-le c.args.passed c.args.codes.now (
+        let within = place_there c.args.table.now.ids c.args.codes.now c.args.passed
+        c.args.table.now.site c.args.rule c.requires.broken in omega (arith, within)),
+    place_there c.args.table.now.ids c.args.codes.now c.args.passed c.args.table.now.site
+        c.args.rule c.requires.broken,
+  );
 }
 
 pub returns-in-Ok : goal.returns-in-Ok
@@ -53,7 +64,7 @@ returns-in-Ok c =
     let within = place_there c.args.table.now.ids c.args.codes.now c.args.passed site
     c.args.rule c.requires.broken in
     halts_code site c.args.table.now.ids c.args.codes.now _ _ _ _ _ c.args.rule c.requires.site
-    c.requires.broken c.in-Ok.ensures.run c.in-Ok.ensures.lines c.in-Ok.ensures.makers
+    c.requires.broken c.in-Ok.ensures.run refl c.new.ensures c.in-Ok.ensures.makers
     (slice_get-get_or c.args.codes.now c.args.passed (Number 0) within)
     (rw ids at c.place.ensures) refl
 

@@ -11,9 +11,9 @@ step-requires g c =
     record {
       id = c.requires.id;
       next = record {
-        first = next.first.lister;
+        first = next.first.judge;
         prefix = next.prefix;
-        ran = next.ran.listed;
+        ran = next.ran.judged;
         allowed = next.allowed.0;
         few = next.few;
       };
@@ -22,15 +22,15 @@ step-requires g c =
 
 -- the step leaves something
 left : (g : Over) (c : In-Ok g)
-    → let entries = g.S.Store.stack c.step.new.self.judge.store.now in
+    → let entries = g.S.Store.stack c.step.new.self.store.now in
     (0 < length entries) × (length entries - 1 ≤ length c.args.self.now.makers.now.items)
 left g c =
     let next = c.requires.next in
     maker_stands g.S.Store.stack g.S.Store.kept next.first c.args.self.now next.prefix
-    next.allowed.1 next.ran _ (name c.requires.id) refl
-    (c.in-Ok.ensures.ran next.first.lister next.prefix c.requires.id c.requires.there next.allowed.0
-    next.ran.listed)
-    next.allowed.0.1
+    next.allowed.2 next.ran _ (name c.requires.id) refl
+    (c.in-Ok.ensures.ran next.first.judge next.prefix c.requires.id c.requires.there next.allowed.0
+    next.ran.judged)
+    next.allowed.1
 
 pub put_maker-requires-clause-made : goal.put_maker-requires-clause-made
 put_maker-requires-clause-made g c =
@@ -42,13 +42,13 @@ put_maker-requires-clause-within g c =
 
 pub returns-in_ok-put_maker-in-Ok-clause-ran : goal.returns-in_ok-put_maker-in-Ok-clause-ran
 returns-in_ok-put_maker-in-Ok-clause-ran g c first prefix id there allowed was =
-    tracks_step g.S.Store.stack g.S.Store.kept first c.args.self.now prefix allowed.1 was _
+    tracks_step g.S.Store.stack g.S.Store.kept first c.args.self.now prefix allowed.2 was _
     (name id) refl
-    (c.in-Ok.ensures.ran first.lister prefix id there allowed.0 was.listed) refl
+    (c.in-Ok.ensures.ran first.judge prefix id there allowed.0 was.judged) refl
     c.in_ok-put_maker-in-Ok.ensures
 
 pub returns-in-Err-clause-stops : goal.returns-in-Err-clause-stops
 returns-in-Err-clause-stops g c first prefix id there allowed was =
-    rw c.stop_for.ensures (stopped_after first.lister.judge.table.now.site prefix (name id) _ _
-    (c.passed-passed.ensures ∙ was.listed.judged.all)
-    (c.in-Err.ensures.stops first.lister prefix id there allowed.0 was.listed))
+    rw c.stop_for.ensures (stopped_after first.judge.table.now.site prefix (name id) _ _
+    (c.passed-passed.ensures ∙ was.judged.all)
+    (c.in-Err.ensures.stops first.judge prefix id there allowed.0 was.judged))

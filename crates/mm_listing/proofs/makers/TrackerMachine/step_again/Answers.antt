@@ -7,14 +7,14 @@ use Rattle.mm_listing.proofs.makers.TrackerMachine.step_again.Goals as goal
 
 -- the step leaves something
 left : (g : Over) (c : In-Ok g)
-    → let entries = g.S.Store.stack c.step_again.new.self.judge.store.now in
+    → let entries = g.S.Store.stack c.step_again.new.self.store.now in
     (0 < length entries) × (length entries - 1 ≤ length c.args.self.now.makers.now.items)
 left g c =
     let next = c.requires in
     maker_stands g.S.Store.stack g.S.Store.kept next.first c.args.self.now next.prefix
-    next.allowed.1 next.ran _ (again c.args.tag) refl
-    (c.in-Ok.ensures.ran next.first.lister next.prefix next.allowed.0 next.ran.listed)
-    next.allowed.0.1
+    next.allowed.2 next.ran _ (again c.args.tag) refl
+    (c.in-Ok.ensures.ran next.first.judge next.prefix next.allowed.0 next.ran.judged)
+    next.allowed.1
 
 pub put_maker-requires-clause-made : goal.put_maker-requires-clause-made
 put_maker-requires-clause-made g c =
@@ -26,7 +26,7 @@ put_maker-requires-clause-within g c =
 
 pub returns-in_ok-put_maker-in-Ok-clause-ran : goal.returns-in_ok-put_maker-in-Ok-clause-ran
 returns-in_ok-put_maker-in-Ok-clause-ran g c first prefix allowed was =
-    tracks_step g.S.Store.stack g.S.Store.kept first c.args.self.now prefix allowed.1 was _
+    tracks_step g.S.Store.stack g.S.Store.kept first c.args.self.now prefix allowed.2 was _
     (again c.args.tag) refl
-    (c.in-Ok.ensures.ran first.lister prefix allowed.0 was.listed) refl
+    (c.in-Ok.ensures.ran first.judge prefix allowed.0 was.judged) refl
     c.in_ok-put_maker-in-Ok.ensures
