@@ -13,7 +13,7 @@ use Rattle.mm_frame.specs.Sentence.{Sentence, sentence_of}
 use Rattle.mm_rules.specs.declared.progress.Progress.{Progress}
 use Rattle.mm_explain.specs.Mirror.Breaches.{Site, IsMeantNext, IsPast}
 use Rattle.mm_verdict.specs.Mirror.Judged.{HasTaken, IsRead, TakesNext}
-use Rattle.mm_explain.specs.Mirror.Reached.{TakesAs}
+use Rattle.mm_verdict.specs.Mirror.Taking.{TakesAs}
 use Rattle.mm_rules.specs.Verdict.{CanBeRead, sentences}
 use Rattle.mm_verdict.proofs.Verdicts.AcceptedStatements.{same_reading}
 use Rattle.mm_verdict.proofs.Verdicts.StatementByStatement.{taken_more}

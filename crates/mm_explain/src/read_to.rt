@@ -1,26 +1,21 @@
 //! The statements of files up to the theorem with a label, whatever their proofs.
 
-ghost use Rattle.std.specs.Prelude.{◌≡◌, ◌+◌, ◌-◌, ◌<◌, ◌≤◌, ◌^◌, ℕ, List, map, IfOk, IfErr};
-ghost use Rattle.mm_base.specs.declared.statement.Kind.TheVariants.{Closing};
-ghost use Rattle.mm_base.specs.MostBytes.{most_bytes};
+ghost use Rattle.std.specs.Prelude.{◌≡◌, ◌-◌, ◌<◌, ℕ, List, map, IfOk, IfErr};
 ghost use Rattle.mm_text.specs.Files.{plain_file, PlainFile};
 ghost use Rattle.mm_text.specs.Remaining.{IsUnread};
-ghost use Rattle.mm_base.specs.Statement.{plain_statement, HasForm, bytes_in};
-ghost use Rattle.mm_frame.specs.Active.{open_marks, close_marks};
+ghost use Rattle.mm_base.specs.Statement.{plain_statement};
 ghost use Rattle.mm_verdict.specs.Alone.{IsNoTheorem};
 ghost use Rattle.mm_rules.specs.declared.fault.CheckFault.TheVariants.{Memory};
 ghost use Rattle.mm_explain.specs.declared.read_to.Unreached.TheVariants.{Ask, Check};
-ghost use Rattle.mm_verdict.specs.Mirror.Judged.{IsRead, StopsTurn};
-ghost use Rattle.mm_rules.specs.Mirror.Judged.{RefusesMeaning, fault_of};
 ghost use Rattle.mm_explain.specs.Mirror.Reached.{EndsSeeking, HasReached, IsSeeking, IsUnreached};
-ghost use Rattle.mm_explain.specs.Mirror.Reached.{StopsBefore, TakesAs, TakesTurn};
+ghost use Rattle.mm_explain.specs.Mirror.Reached.{StopsBefore};
 ghost use Rattle.mm_rules.specs.Verdict.{CanBeRead};
 
 use mm_base::{File, Kind, Seed, Statement};
-use mm_frame::{Book, LabelId, RuleFault, Taken};
-use mm_rules::{AskRule, CheckFault, Progress, Rule, Stop, refusal};
+use mm_frame::{Book, LabelId, Taken};
+use mm_rules::{AskRule, CheckFault, Progress, Stop};
 use mm_text::Statements;
-use mm_verdict::{beginning, has_label, load, make_room, next};
+use mm_verdict::{beginning, has_label, load, take_next};
 use std::alloc::{AllocError, Global};
 
 /// A theorem, and a book of the statements before it and of it, which break no rule of meaning. It
@@ -65,62 +60,6 @@ impl<'a> From<AskRule> for Unreached<'a> {
     fn from(rule: AskRule) -> Unreached<'a> {
         Unreached::Ask(rule)
     }
-}
-
-/// Takes a statement after those that the progress has, unless it breaks a rule of meaning. Its
-/// proof isn't judged.
-pub fn take<'a>(progress: &mut Progress<'a>, statement: &Statement<'a>) -> Result<Taken, Stop<'a>>
-    requires formed { HasForm (plain_statement statement.now) }
-    requires closes { statement.now.kind ≡ Closing
-        → close_marks progress.old.prover.book.statements
-        < open_marks progress.old.prover.book.statements }
-    requires room { progress.old.prover.book.bytes
-        + bytes_in (plain_statement statement.now) ≤ most_bytes }
-    requires count { progress.old.count < 2 ^ 62 }
-    ensures taken { IfOk result (λ taken. TakesAs progress.old (plain_statement statement.now)
-        taken progress.new) }
-    ensures refused { IfErr result (RefusesMeaning progress.old.lines
-        progress.old.prover.book.statements progress.old.count
-        (plain_statement statement.now)) }
-{
-    match progress.prover.take(statement) {
-        Ok(taken) => {
-            progress.count += 1;
-            Ok(taken)
-        }
-        Err(RuleFault::Rule(rule)) => {
-            let refusal = refusal(
-                &mut progress.lines,
-                progress.count,
-                statement,
-                Rule::Meaning(rule),
-                0,
-            );
-            Err(Stop::Refused(refusal))
-        }
-        Err(RuleFault::Memory) => Err(Stop::Memory),
-    }
-}
-
-/// Reads the next statement and takes it into the progress, whatever its proof: what it was taken
-/// as, or nothing where there is none.
-fn take_next<'a>(
-    files: &[File<'a>],
-    statements: &mut Statements<'a>,
-    progress: &mut Progress<'a>,
-    into: &mut Statement<'a>,
-) -> Result<Option<Taken>, Stop<'a>>
-    requires { IsRead (map plain_file files.now) progress.old statements.old }
-    ensures turned { IfOk result (λ taken. TakesTurn progress.old statements.old taken
-        (plain_statement into.new) progress.new statements.new) }
-    ensures stopped { IfErr result (StopsTurn (map plain_file files.now) progress.old
-        statements.old) }
-{
-    if !next(files, statements, into)? {
-        return Ok(None);
-    }
-    make_room(files, progress);
-    Ok(Some(take(progress, into)?))
 }
 
 /// Reads and takes statements up to one with this label: what that one was taken as, or nothing

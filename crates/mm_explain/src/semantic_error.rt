@@ -13,12 +13,11 @@ ghost use Rattle.mm_explain.specs.Mirror.Breaches.{IsMeantNext, Site};
 ghost use Rattle.mm_verdict.specs.Mirror.Judged.{IsRead, TakesNext};
 ghost use Rattle.mm_rules.specs.Verdict.{CanBeRead, sentences};
 
-use crate::read_to::take;
 use mm_base::{File, Seed, Statement, Token};
 use mm_frame::MeaningRule;
 use mm_rules::{Progress, Stop};
 use mm_text::Statements;
-use mm_verdict::{beginning, make_room};
+use mm_verdict::{beginning, make_room, take};
 use std::alloc::{AllocError, Global};
 
 /// A statement that breaks a rule of meaning.

@@ -35,7 +35,7 @@ use Rattle.mm_verdict.specs.Faults.{IsMeaningRefusal}
 use Rattle.mm_verdict.specs.Mirror.Judged.{HasTaken, StopsTurn, TakesNext, RefusesLoad}
 use Rattle.mm_rules.specs.Mirror.Judged.{fault_of}
 use Rattle.mm_explain.specs.Mirror.Reached.{HasReached, IsFound, IsSeeking, IsUnreached, StopsBefore}
-use Rattle.mm_explain.specs.Mirror.Reached.{TakesAs}
+use Rattle.mm_verdict.specs.Mirror.Taking.{TakesAs}
 use Rattle.mm_rules.specs.Verdict.{CanBeRead, proof_of, refusal_of, sentences}
 use Rattle.mm_verdict.proofs.Verdicts.AcceptedStatements.{proof_fits, within_limit}
 use Rattle.mm_verdict.proofs.Verdicts.FaultLists.{meant_more, none_meant}

@@ -1,12 +1,12 @@
 -- What the code knows on its way to the theorem with a label, and of what it finds there. This file
 -- mirrors the code, and is cited by private contracts alone.
-use Rattle.std.specs.Prelude.{◌≡◌, ℕ, ◌+◌, List, [], ◌∷◌, ◌++◌, length, Bool, true, false}
+use Rattle.std.specs.Prelude.{◌≡◌, ℕ, List, [], ◌∷◌, ◌++◌, length, Bool, true, false}
 use Rattle.std.specs.Prelude.{Option, Some, None}
 use Rattle.mm_text.specs.Files.{PlainFile}
 use Rattle.mm_text.specs.Remaining.{Remaining}
-use Rattle.mm_base.specs.Statement.{PlainStatement, plain_statement, HasForm, bytes_in}
-use Rattle.mm_frame.specs.Rules.{IsMeant, AllMeant}
-use Rattle.mm_frame.specs.Sentence.{Sentence, sentence_of}
+use Rattle.mm_base.specs.Statement.{PlainStatement, plain_statement, HasForm}
+use Rattle.mm_frame.specs.Rules.{AllMeant}
+use Rattle.mm_frame.specs.Sentence.{Sentence}
 use Rattle.mm_frame.specs.Taken.{TakenAs}
 use Rattle.mm_frame.specs.declared.answer.Taken.{Taken}
 use Rattle.mm_step.specs.declared.profile.Profile.TheVariants.{Lenient}
@@ -24,28 +24,9 @@ use Rattle.mm_explain.specs.declared.read_to.Unreached.TheVariants.{Check, Ask}
 use Rattle.mm_rules.specs.declared.rule.AskRule.TheVariants.{A1}
 use Rattle.mm_verdict.specs.Alone.{LackLabel, IsReadTo, IsRefusedBefore, IsNoTheorem, IsTheoremAt}
 use Rattle.mm_rules.specs.Answer.{plain_refusal}
-use Rattle.mm_verdict.specs.Mirror.Judged.{HasTaken, IsRead, TakesNext}
+use Rattle.mm_verdict.specs.Mirror.Judged.{HasTaken, IsRead}
 use Rattle.mm_rules.specs.Mirror.Judged.{IsLastProof}
 use Rattle.mm_rules.specs.Verdict.{HasVerdict, Load, sentences}
-
--- the statement breaks no rule of meaning, and is taken into the progress as this, whatever its
--- proof
-pub record TakesAs (old : Progress) (s : PlainStatement) (taken : Taken)
-    (new : Progress) : Type 0 where
-  pub meant : IsMeant old.prover.book.statements (sentence_of s)
-  pub statements : new.prover.book.statements ≡ old.prover.book.statements ++ sentence_of s ∷ []
-  pub bytes : new.prover.book.bytes ≡ old.prover.book.bytes + bytes_in s
-  pub count : new.count ≡ old.count + 1
-  pub proofs : new.proofs ≡ old.proofs
-  pub lines : new.lines ≡ old.lines
-  pub kind : TakenAs old.prover.book.statements s.kind taken
-
--- what reading and taking the next statement came to; nothing where there is none
-abbrev pub TakesTurn : (old : Progress) → Remaining → Option Taken → PlainStatement
-    → (new : Progress) → Remaining → Type 0
-TakesTurn old left None s new rest = TakesNext left false s rest
-TakesTurn old left (Some taken) s new rest =
-    TakesNext left true s rest × HasForm s × TakesAs old s taken new
 
 -- the statements so far break no rule of meaning, and none of them has the label
 pub record IsSeeking (files : List PlainFile) (label : List ℕ) (p : Progress)
