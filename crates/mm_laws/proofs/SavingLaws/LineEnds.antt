@@ -9,6 +9,7 @@ use borrow.Author.Tests.{eqb-true}
 use Rattle.mm_base.specs.Token.{is_space}
 use Rattle.mm_code.specs.Words.{tokens_in}
 use Rattle.mm_code.proofs.ReadBack.{tokens_in-space, tokens_in-end, tokens_in-on}
+use Rattle.mm_code.proofs.SmallEnds.{EndsWhite}
 use Rattle.mm_render.specs.Saved.{spaces, long_end, has_long_ends, with_ends_of}
 
 -- ==== byte by byte
@@ -81,13 +82,6 @@ pub record BeginsWhite (text : List ℕ) : Type 0 where
   pub more : List ℕ
   pub is : text ≡ first ∷ more
   pub white : is_space first ≡ true
-
--- bytes that end with it
-pub record EndsWhite (text : List ℕ) : Type 0 where
-  pub inner : List ℕ
-  pub last : ℕ
-  pub is : text ≡ inner ++ last ∷ []
-  pub white : is_space last ≡ true
 
 pub lengthened_begins : (text : List ℕ) → BeginsWhite text → BeginsWhite (lengthened text)
 lengthened_begins text b = elim (cases_Bool (b.first == 10)) [
