@@ -36,7 +36,9 @@ use Rattle.mm_check.proofs.AlikeVerdicts.{alike_back, breaks_alike, name_alike}
 use Rattle.mm_tool.specs.Ending.{label_of}
 use Rattle.mm_explain.specs.Near.{IsLabelIn}
 use Rattle.mm_tool.specs.Notes.{AreLeftOut, AreNotesBeside, AreNotesOn, IsNearLine, near_line}
-use Rattle.mm_tool.specs.Notes.{unknown_text}
+use Rattle.mm_rules.specs.declared.ask.AskFault.TheVariants.{Rule}
+use Rattle.mm_rules.specs.declared.rule.AskRule.TheVariants.{A1}
+use Rattle.mm_verdict.specs.Reply.{IsAskReply}
 
 -- ==== from the reading of one file to that of all
 
@@ -219,12 +221,13 @@ three_parts (Err e) old first second new a b d one two three = tt
 -- The line on a near label was put at the end, where the reply says that no statement has the asked
 -- one.
 pub near_told : {T E : Type 0} (r : Result T E) (files : List PlainFile) (asked : Option (List ℕ))
-    (label reply near old new : List ℕ) → asked ≡ Some label → reply ≡ unknown_text label
+    (label reply near old new : List ℕ) (status : ℕ) → asked ≡ Some label
+    → IsAskReply (Rule A1) label reply status
     → IsLabelIn files near → OnOk r (new ≡ old ++ near_line near)
     → OnOk r ((line : List ℕ) × IsNearLine files asked reply line × (new ≡ old ++ line))
-near_told (Ok v) files asked label reply near old new is unknown among put =
-    (near_line near, rw is (inr (unknown, near, among, refl)), put)
-near_told (Err e) files asked label reply near old new is unknown among put = tt
+near_told (Ok v) files asked label reply near old new status is unknown among put =
+    (near_line near, rw is (inr (status, unknown, near, among, refl)), put)
+near_told (Err e) files asked label reply near old new status is unknown among put = tt
 
 -- ---- files that were read
 

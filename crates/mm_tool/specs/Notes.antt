@@ -7,7 +7,10 @@ use Rattle.mm_text.specs.declared.fault.LoadRule.{LoadRule}
 use Rattle.mm_text.specs.Files.{BreaksLoad, PlainFile}
 use Rattle.mm_text.specs.Included.{left_out}
 use Rattle.mm_explain.specs.Near.{IsLabelIn}
+use Rattle.mm_rules.specs.declared.ask.AskFault.TheVariants.{Rule}
+use Rattle.mm_rules.specs.declared.rule.AskRule.TheVariants.{A1}
 use Rattle.mm_rules.specs.Places.{name_of}
+use Rattle.mm_verdict.specs.Reply.{IsAskReply}
 
 -- the line on a file that wasn't included
 abbrev pub note_of : (name : Text) → List ℕ
@@ -42,21 +45,17 @@ pub record AreLeftOut (files : List PlainFile) (names : List Text) : Type 0 wher
 abbrev pub AreNotesOn : List PlainFile → List ℕ → Type 0
 AreNotesOn files notes = (names : List Text) × AreLeftOut files names × (notes ≡ notes_on names)
 
--- the reply that no statement has this label
-abbrev pub unknown_text : (label : Text) → List ℕ
-unknown_text label = codes "ask A1 " ++ (label ++ codes "\n")
-
 -- the line on a near label
 abbrev pub near_line : (near : List ℕ) → List ℕ
 near_line near = codes "mm: the nearest label is " ++ (near ++ codes "\n")
 
--- This is said beside the reply to a command that asks about this label: where no statement has it,
--- at most one line, with the label of a statement; else nothing.
+-- This is said beside the reply to a command that asks about this label: where the reply is that no
+-- statement has it, at most one line, with the label of a statement; else nothing.
 abbrev pub IsNearLine : List PlainFile → (asked : Option Text) → (reply line : List ℕ) → Type 0
 IsNearLine files None reply line = line ≡ []
 IsNearLine files (Some label) reply line =
     (line ≡ [])
-    ⊎ ((reply ≡ unknown_text label)
+    ⊎ ((status : ℕ) × IsAskReply (Rule A1) label reply status
     × (near : List ℕ) × IsLabelIn files near × (line ≡ near_line near))
 
 -- These are the notes beside the reply: those on the files, and then the one on a near label.

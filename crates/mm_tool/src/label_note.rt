@@ -4,25 +4,15 @@ ghost use Rattle.std.specs.Prelude.{◌≡◌, ◌++◌, List, ℕ, map, option_
 ghost use Rattle.mm_text.specs.Files.{plain_file};
 ghost use Rattle.mm_tool.specs.Ending.{label_of};
 ghost use Rattle.mm_tool.specs.Notes.{AreNotesBeside, IsNearLine, near_line};
-ghost use Rattle.mm_tool.specs.Notes.{unknown_text as unknown_text_of};
 
 use crate::notes::notes_on;
 use crate::unread::asked_label;
 use mm_base::{File, Seed};
 use mm_check::Command;
 use mm_explain::nearest_label;
+use mm_rules::{AskFault, AskRule};
+use mm_verdict::ask_reply;
 use std::alloc::{AllocError, Global};
-
-/// The reply that no statement has this label.
-fn unknown_text(alloc: Global, label: &[u8]) -> Result<Vec<u8>, AllocError>
-    ensures { IfOk result (λ text. text.items ≡ unknown_text_of label.now) }
-{
-    let mut text = Vec::new(alloc);
-    text.extend_from_slice(b"ask A1 ")?;
-    text.extend_from_slice(label)?;
-    text.push(b'\n')?;
-    Ok(text)
-}
 
 /// Puts the line on a near label at the end.
 fn push_near(notes: &mut Vec<u8>, near: &[u8]) -> Result<(), AllocError>
@@ -50,8 +40,8 @@ fn push_nearest(
     let Some(label) = asked else {
         return Ok(());
     };
-    let unknown = unknown_text(alloc, label)?;
-    if reply != unknown.as_slice() {
+    let unknown = ask_reply(alloc, label, AskFault::Rule(AskRule::A1))?;
+    if reply != unknown.text.as_slice() {
         return Ok(());
     }
     match nearest_label(alloc, seed, files, label)? {
