@@ -81,9 +81,12 @@ sizing_starts uses to count zeros sizes below within z e = subst
     (record {
       room = λ u among.
           let less = below u among in
-          omega
-          (arith, less, length-replicate {A = ℕ} count 0,
-          length-set {A = ℕ} (replicate count 0) to 1);
+          omega (
+            arith,
+            less,
+            length-replicate {A = ℕ} count 0,
+            length-set {A = ℕ} (replicate count 0) to 1,
+          );
       small = λ n. elim (cases_eq n to) [
         | inl same ↦ rw same (let one = at_end in omega arith)
         | inr other ↦ let none = elsewhere n other in omega arith

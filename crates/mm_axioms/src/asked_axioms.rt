@@ -31,10 +31,10 @@ use mm_rules::{AskFault, AskRule};
 use mm_verdict::Checked;
 use std::alloc::{AllocError, Global};
 
-/// What the `$p` with this label rests on.
+/// What the `$p` with this label depends on.
 ///
-/// It rests on the assertions in the tree that its proof spells and, with each `$p` among them
-/// whose proof is complete, on those that this one rests on. Axioms of syntax are axioms too.
+/// It depends on the assertions in the tree that its proof spells and, with each `$p` among them
+/// whose proof is complete, on those that this one depends on. Axioms of syntax are axioms too.
 ///
 /// # Errors
 ///
@@ -42,7 +42,7 @@ use std::alloc::{AllocError, Global};
 /// proof is incomplete; `Memory` where a growth was refused.
 pub fn axioms(alloc: Global, checked: &Checked, label: &[u8]) -> Result<Report, AskFault>
     // The lists are those of the statements of the files: the `$a`, and the incomplete `$p`,
-    // among what the theorem rests on.
+    // among what the theorem depends on.
     ensures report { IfOk result (λ report. (statements : List PlainStatement)
         → Reads checked.now.files statements None → IsReport statements label.now
         (map (λ id. id.0) report.axioms.items) (map (λ id. id.0) report.unproved.items)) }
@@ -134,8 +134,8 @@ pub fn direct_users(
     Ok(users_among(alloc, kept, assertion)?)
 }
 
-/// The `$p` with complete proofs that rest on the assertion with this label, in database order:
-/// their proofs use it, or a theorem that rests on it.
+/// The `$p` with complete proofs that depend on the assertion with this label, in database order:
+/// their proofs use it, or a theorem that depends on it.
 ///
 /// # Errors
 ///
@@ -217,7 +217,7 @@ pub fn chain(
     }
 }
 
-/// The tables of what all theorems rest on.
+/// The tables of what all theorems depend on.
 pub fn tables(alloc: Global, checked: &Checked) -> Result<Tables, AllocError>
     ensures { IfOk result (λ tables. AreTables checked.now.sentences checked.now.incomplete
         checked.now.uses tables) }
@@ -239,7 +239,7 @@ pub(crate) fn theorems_in(alloc: Global, checked: &Checked) -> Result<Vec<LabelI
     theorems_of(alloc, &checked.book)
 }
 
-/// What a theorem rests on, as the tables tell it; nothing where its proof is incomplete.
+/// What a theorem depends on, as the tables tell it; nothing where its proof is incomplete.
 pub(crate) fn report_at(
     alloc: Global,
     checked: &Checked,

@@ -24,7 +24,7 @@ pub(crate) fn has_bit(word: SetWord, number: usize) -> bool
     word.index == number / WORD_BITS && (word.bits >> (number % WORD_BITS) as u32) & 1 == 1
 }
 
-/// Whether a number is in a set, which is told by those of its words that aren't 0.
+/// Whether a number is in a set, which is given by those of its words that aren't 0.
 pub(crate) fn has_number(row: &[SetWord], number: usize) -> bool
     ensures { result ≡ has_number_in row.now number }
 {

@@ -1,9 +1,9 @@
-//! What theorems rest on, and what rests on them.
+//! What theorems depend on, and what depends on them.
 //! It answers `axioms` of one theorem and of all, `direct_users`, `all_users` and `chain`, from the
 //! assertions that each complete proof uses, as the verdict keeps them (`mm_step` finds them, in
 //! `used`). It stands on `mm_verdict` alone. Begin with `asked_axioms`, then `report` and `rows`,
 //! `users` or `chains`. What a theorem rests on is defined in `specs/Rests.antt` of `mm_rules`, who
-//! its users are in `specs/Users.antt`, why it rests on it in `specs/Chains.antt`.
+//! its users are in `specs/Users.antt`, why it depends on it in `specs/Chains.antt`.
 #![tactic(auto)]
 
 mod all_axioms;

@@ -17,7 +17,7 @@ use mm_frame::{Book, LabelId, LabelKind};
 use mm_rules::Kept;
 use std::alloc::{AllocError, Global};
 
-/// What a theorem rests on: its proof, and the proofs of the theorems that it uses, and so on.
+/// What a theorem depends on: its proof, and the proofs of the theorems that it uses, and so on.
 #[derive(Debug, Drop)]
 pub struct Report {
     /// The `$a`, in database order.
@@ -57,7 +57,7 @@ fn mark(marks: &mut [bool], numbers: &[LabelId])
     }
 }
 
-/// Marks, among the numbers before a theorem, those of the assertions that it rests on.
+/// Marks, among the numbers before a theorem, those of the assertions that it depends on.
 ///
 /// Each proof uses earlier assertions alone. So once all proofs from the last one down to some
 /// index were passed, it is settled for each number from there on whether it is marked.
@@ -169,7 +169,7 @@ pub fn theorems_of(alloc: Global, book: &Book) -> Result<Vec<LabelId>, AllocErro
     numbers_of_kind(alloc, book, LabelKind::Proof)
 }
 
-/// What all theorems rest on.
+/// What all theorems depend on.
 #[derive(Drop)]
 pub struct Tables {
     axioms: Vec<LabelId>,
@@ -200,7 +200,7 @@ pub(crate) fn tables_of(
     })
 }
 
-/// What a theorem rests on, as the tables tell it.
+/// What a theorem depends on, as the tables tell it.
 pub(crate) fn report_in(
     alloc: Global,
     tables: &Tables,
@@ -217,8 +217,8 @@ pub(crate) fn report_in(
     Ok(Report { axioms, unproved })
 }
 
-/// Whether a theorem rests on each axiom, and on each of the incomplete, that an assertion is or
-/// rests on.
+/// Whether a theorem depends on each axiom, and on each of the incomplete, that an assertion is or
+/// depends on.
 pub fn is_founded(tables: &Tables, incomplete: &[LabelId], theorem: LabelId, used: LabelId) -> bool
     requires axioms { AreRising (map (λ l. l.0) tables.now.axioms.items) }
     requires incomplete { AreRising (map (λ l. l.0) incomplete.now) }

@@ -43,7 +43,7 @@ impl Model for Rows {
     ghost invariant = { λ r. AreBounds r.words.items r.bounds.items };
 }
 
-/// Puts a bound at the end, up to so many bounds.
+/// Appends a bound, up to so many bounds.
 fn pad(bounds: &mut Vec<usize>, count: usize, bound: usize) -> Result<(), AllocError>
     requires { length bounds.old.items ≤ count }
     ensures { OnOk result (IsPadded bounds.old.items bounds.new.items count bound) }
@@ -79,7 +79,7 @@ impl Rows {
         }
     }
 
-    /// With the row of one more number, which is told by a set. The set is emptied.
+    /// With the row of one more number, which is given by a set. The set is emptied.
     fn with_row(self, number: LabelId, set: &mut Scratch) -> Result<Rows, AllocError>
         requires { length self.bounds ≤ number.0 + 1 }
         ensures put { IfOk result (λ rows. IsRowPut self number.0 (words_from 0 set.old) rows) }
@@ -99,7 +99,7 @@ impl Rows {
     }
 }
 
-/// Puts the index of a number into a set, if it is one of these.
+/// Adds the index of a number to a set, if it is one of these.
 fn enter_index(set: &mut Scratch, numbers: &[LabelId], number: LabelId)
     requires rising { AreRising (map (λ l. l.0) numbers.now) }
     requires width { length numbers.now / 64 < length set.old }
@@ -117,7 +117,7 @@ fn enter_index(set: &mut Scratch, numbers: &[LabelId], number: LabelId)
     }
 }
 
-/// Puts what a number reaches into a set: its index, if it is one of these, and what its row holds.
+/// Adds what a number reaches to a set: its index, if it is one of these, and what its row holds.
 fn enter(set: &mut Scratch, rows: &Rows, numbers: &[LabelId], number: LabelId)
     requires rising { AreRising (map (λ l. l.0) numbers.now) }
     requires width { length numbers.now / 64 < length set.old }
@@ -132,7 +132,7 @@ fn enter(set: &mut Scratch, rows: &Rows, numbers: &[LabelId], number: LabelId)
 }
 
 /// Puts into an empty set what a proof with these uses reaches: those of some assertions that it
-/// uses, and those that the theorems rest on that it uses.
+/// uses, and those that the theorems depend on that it uses.
 fn fill(set: &mut Scratch, rows: &Rows, numbers: &[LabelId], used: &[LabelId])
     requires rising { AreRising (map (λ l. l.0) numbers.now) }
     requires empty { set.old ≡ replicate (length numbers.now / 64 + 1) 0 }
@@ -146,9 +146,9 @@ fn fill(set: &mut Scratch, rows: &Rows, numbers: &[LabelId], used: &[LabelId])
     }
 }
 
-/// For each theorem, by its number, the indices of those of some assertions that it rests on.
+/// For each theorem, by its number, the indices of those of some assertions that it depends on.
 ///
-/// Each proof uses earlier assertions alone, so what it reaches is told by the rows before it.
+/// Each proof uses earlier assertions alone, so what it reaches is given by the rows before it.
 /// For each proof that takes a look at the words of the rows that it uses, at 64 words for each
 /// word of its own row at most, and at a mark for each 4096 of the assertions.
 pub(crate) fn rows_of(alloc: Global, kept: &Kept, numbers: &[LabelId]) -> Result<Rows, AllocError>
@@ -165,7 +165,7 @@ pub(crate) fn rows_of(alloc: Global, kept: &Kept, numbers: &[LabelId]) -> Result
     Ok(rows)
 }
 
-/// Puts the number at an index at the end of a list, if there is one.
+/// Appends the number at an index to a list, if there is one.
 fn push_at(out: &mut Vec<LabelId>, numbers: &[LabelId], at: usize) -> Result<(), AllocError>
     ensures { OnOk result (out.new.items
         ≡ out.old.items ++ option_to_list (slice_get numbers.now at)) }
@@ -177,7 +177,7 @@ fn push_at(out: &mut Vec<LabelId>, numbers: &[LabelId], at: usize) -> Result<(),
     Ok(())
 }
 
-/// Puts those of these numbers at the end of a list whose indices a word tells, in their order.
+/// Appends those of these numbers to a list whose indices a word tells, in their order.
 fn push_told(out: &mut Vec<LabelId>, numbers: &[LabelId], word: SetWord) -> Result<(), AllocError>
     requires rising { AreRising (map (λ l. l.0) numbers.now) }
     requires narrow { word.index < 2 ^ 58 }
@@ -226,7 +226,7 @@ fn is_entered(numbers: &[LabelId], row: &[SetWord], number: LabelId) -> bool
     }
 }
 
-/// Whether a theorem rests on each of these numbers that an assertion is or rests on.
+/// Whether a theorem depends on each of these numbers that an assertion is or depends on.
 pub(crate) fn rests_no_further(
     numbers: &[LabelId],
     rows: &Rows,

@@ -32,7 +32,7 @@ impl Model for Scratch {
     ghost invariant = { λ s. IsNoted s.words.items s.touched.items };
 }
 
-/// Puts a word at the end of a list, if it has a bit.
+/// Appends a word to a list, if it has a bit.
 fn push_word(out: &mut Vec<SetWord>, index: usize, bits: u64) -> Result<(), AllocError>
     ensures { OnOk result (out.new.items ≡ out.old.items ++ words_from index (bits ∷ [])) }
 {
@@ -64,7 +64,7 @@ impl Scratch {
         self.touched[word.index / BLOCK_WORDS] = true;
     }
 
-    /// Puts the numbers of another set into it.
+    /// Adds the numbers of another set to it.
     pub fn join(&mut self, row: &[SetWord])
         requires { (w : SetWord) → Contains row.now w → w.index < length self.old }
         ensures length { length self.new ≡ length self.old }
@@ -76,7 +76,7 @@ impl Scratch {
         }
     }
 
-    /// Puts the words that aren't 0 at the end of a list, in their order, and empties the set.
+    /// Appends the words that aren't 0 to a list, in their order, and empties the set.
     pub fn drain(&mut self, out: &mut Vec<SetWord>) -> Result<(), AllocError>
         ensures words { OnOk result (out.new.items ≡ out.old.items ++ words_from 0 self.old) }
         ensures row { OnOk result (IsRow (words_from 0 self.old)) }

@@ -59,7 +59,7 @@ pub(crate) fn end_of(kept: &Kept) -> usize
     }
 }
 
-/// The theorems that rest on an assertion, in database order.
+/// The theorems that depend on an assertion, in database order.
 ///
 /// Each proof uses earlier assertions alone. So once all proofs before some index were passed, it
 /// is settled for each number before that of the next one whether it is marked.

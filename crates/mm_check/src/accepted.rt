@@ -29,7 +29,7 @@ use std::alloc::{AllocError, Global};
 pub(crate) enum Asked<'a> {
     /// For the verdict alone.
     Verdict,
-    /// What each theorem rests on.
+    /// What each theorem depends on.
     Axioms,
     /// Which proofs become shorter by what the library has.
     Shorter,

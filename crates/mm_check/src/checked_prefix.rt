@@ -81,7 +81,7 @@ fn fault_reply(
     })
 }
 
-/// The reply where the known prefix of the proof breaks no rule: the lines of its steps, and what
+/// The reply where the checked prefix of the proof breaks no rule: the lines of its steps, and what
 /// it leaves on the stack.
 fn prefix_reply(
     alloc: Global,
@@ -110,7 +110,7 @@ fn prefix_reply(
     })
 }
 
-/// The reply where these are the steps of the proof, or of its known prefix.
+/// The reply where these are the steps of the proof, or of its checked prefix.
 fn steps_reply(
     alloc: Global,
     files: &[File],

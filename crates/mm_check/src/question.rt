@@ -38,7 +38,7 @@ pub enum WholeQuestion {
     Faults,
     /// For an explanation of each of them.
     Why,
-    /// What each theorem rests on.
+    /// What each theorem depends on.
     Axioms,
     /// Which proofs become shorter by what the library has.
     Shorter,
@@ -47,7 +47,7 @@ pub enum WholeQuestion {
 /// A question about the theorem with a label, or about the assertion or the statement.
 #[derive(Clone, Copy, PartialEq, Eq, Debug)]
 pub enum Question<'a> {
-    /// What it rests on.
+    /// What it depends on.
     Axioms,
     /// How it is proved, step by step.
     Show,
@@ -60,7 +60,7 @@ pub enum Question<'a> {
     /// Whether this text is the same proof.
     Same(&'a [u8]),
     /// Of the assertion with the label: for the theorems whose proofs use it; if `all`, for those
-    /// that rest on it.
+    /// that depend on it.
     Users { all: bool },
     /// Of the statement with the label, whatever its kind: where it stands, its frame and what it
     /// says.
@@ -76,7 +76,7 @@ pub enum LoneQuestion<'a> {
     /// How it is proved, step by step, as far as that is known.
     Known,
     /// Whether this text is a proof of it, whatever stands in the file as its proof. Its name is
-    /// that of the file that holds it: the place of a fault is told in that file.
+    /// that of the file that holds it: the place of a fault is reported in that file.
     Try { name: &'a [u8], text: &'a [u8] },
 }
 
@@ -124,7 +124,7 @@ fn report_status(report: &Report) -> Status
     }
 }
 
-/// The reply of a database in which nothing is at fault to the question what a theorem rests on.
+/// The reply of a database in which nothing is at fault to the question what a theorem depends on.
 fn axioms_answer(alloc: Global, checked: &Checked, label: &[u8]) -> Result<Reply, AllocError>
     ensures { IfOk result (λ reply. (statements : List PlainStatement)
         → Reads checked.now.files statements None → checked.now.labels ≡ labels_of statements
@@ -241,7 +241,7 @@ fn form_text(
     }
 }
 
-/// The theorems that use the assertion with a label, or all that rest on it.
+/// The theorems that use the assertion with a label, or all that depend on it.
 fn users_of(
     alloc: Global,
     checked: &Checked,
@@ -264,7 +264,7 @@ fn users_of(
     }
 }
 
-/// A line for each theorem that uses the assertion with a label, or for all that rest on it.
+/// A line for each theorem that uses the assertion with a label, or for all that depend on it.
 fn users_text(
     alloc: Global,
     checked: &Checked,

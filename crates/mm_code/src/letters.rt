@@ -162,7 +162,7 @@ fn put_token(
 {
     let mut index = from;
     let mut value = leading;
-    // By index, since a letter at fault is told with those behind it.
+    // By index, since a letter at fault is reported with those behind it.
     for at in 0..token.len() {
         match put_letter(slots, index, value, token[at]) {
             Ok(next) => (index, value) = next,

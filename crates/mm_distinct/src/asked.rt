@@ -28,7 +28,7 @@ use mm_frame::{Book, Frame, LabelId, Piece, Scheme, ShortPiece, Sym, one_number}
 use mm_step::{after_first, has_symbol, variables_in};
 use std::alloc::{AllocError, Global};
 
-// Puts what the piece says of the entries behind the others.
+// Appends what the piece says of the entries to the others.
 fn add_said(said: &mut Vec<Sym>, entries: &[&[Sym]], piece: ShortPiece) -> Result<(), AllocError>
     requires { IsWithinIndices (length entries.now) piece }
     ensures { OnOk result (numbers_in said.new.items
@@ -235,7 +235,7 @@ fn make_room_for_pair(pairs: &mut Vec<(Sym, Sym)>) -> Result<(), AllocError>
     Ok(())
 }
 
-// Puts the pair among the others where it is missing.
+// Adds the pair to the others where it is missing.
 fn add_missing(
     missing: &mut Vec<(Sym, Sym)>,
     book: &Book,
@@ -255,7 +255,7 @@ fn add_missing(
     Ok(())
 }
 
-/// Puts the missing pairs of the symbol and of those in the expression among the others, some
+/// Adds the missing pairs of the symbol and of those in the expression to the others, some
 /// repeatedly.
 pub(crate) fn add_missing_of(
     missing: &mut Vec<(Sym, Sym)>,

@@ -36,7 +36,7 @@ use mm_step::{
 };
 use std::alloc::{AllocError, Global};
 
-// Puts the missing pairs, one of each list, among the others, some repeatedly.
+// Adds the missing pairs, one of each list, to the others, some repeatedly.
 fn add_between(
     lacking: &mut Vec<(Sym, Sym)>,
     book: &Book,
@@ -54,7 +54,7 @@ fn add_between(
     Ok(())
 }
 
-// Puts the missing pairs of what replaces the members of a mandatory pair among the others.
+// Adds the missing pairs of what replaces the members of a mandatory pair to the others.
 fn add_of_pair<S: Store>(
     lacking: &mut Vec<(Sym, Sym)>,
     store: &S,
@@ -78,7 +78,7 @@ fn add_of_pair<S: Store>(
     add_between(lacking, book, own, e, f)
 }
 
-// Puts the missing pairs of what replaces the members of each pair among the others.
+// Adds the missing pairs of what replaces the members of each pair to the others.
 fn add_of_each<S: Store>(
     lacking: &mut Vec<(Sym, Sym)>,
     store: &S,
@@ -102,7 +102,7 @@ fn add_of_each<S: Store>(
     Ok(())
 }
 
-// Puts the missing pairs of what replaces the members of each mandatory pair among the others:
+// Adds the missing pairs of what replaces the members of each mandatory pair to the others:
 // those of the different variables of the entries.
 fn add_of_pairs<S: Store>(
     alloc: Global,

@@ -90,7 +90,7 @@ fn meaning_rule(refusal: &Refusal) -> MeaningRule
     }
 }
 
-/// Puts at the end with what the token at fault collides.
+/// Appends the declaration that the faulty token conflicts with.
 fn push_earlier<'a>(
     out: &mut Vec<u8>,
     alloc: Global,

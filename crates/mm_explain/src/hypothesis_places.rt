@@ -19,7 +19,7 @@ use mm_frame::{Book, LabelId};
 use mm_step::ProofRule;
 use std::alloc::{AllocError, Global};
 
-/// Whether the theorem's own hypotheses are told where the rule is broken.
+/// Whether the theorem's own hypotheses are reported where the rule is broken.
 fn tells_own(rule: ProofRule) -> bool
     ensures { result ≡ tells_own_of rule }
 {
@@ -53,7 +53,7 @@ fn push_at_token<'a>(
     }
 }
 
-/// The places that are told where moves stop by the rule.
+/// The places that are reported where moves stop by the rule.
 fn push_at_stop<'a>(
     out: &mut Vec<u8>,
     alloc: Global,

@@ -281,7 +281,7 @@ fn push_origins<'a>(
     }
 }
 
-/// The facts that explain the refusal for a fault of the text, and the position that is told.
+/// The facts that explain the refusal for a fault of the text, and the position that is reported.
 pub(crate) fn text_facts<'a>(
     alloc: Global,
     seed: Seed,

@@ -58,7 +58,7 @@ pub fn judged_steps(
 }
 
 /// What the tokens are as a proof of the `$p` with the number: a complete one, an incomplete one
-/// whose known prefix breaks no rule, or one with this first fault.
+/// whose checked prefix breaks no rule, or one with this first fault.
 fn try_tokens(
     alloc: Global,
     book: &Book,
@@ -82,7 +82,7 @@ fn try_tokens(
     }
 }
 
-/// The reply where the known prefix of the tokens breaks no rule: that they are incomplete, and
+/// The reply where the checked prefix of the tokens breaks no rule: that they are incomplete, and
 /// what the prefix leaves on the stack.
 fn prefix_reply(
     alloc: Global,

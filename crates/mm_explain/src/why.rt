@@ -75,7 +75,7 @@ fn owner_words(rule: Rule) -> &'static [u8]
     }
 }
 
-/// Puts at the end in what a fault is, with the statement's label; nothing where there is none.
+/// Appends what a fault is in, with the statement's label; nothing where there is none.
 fn push_owner(out: &mut Vec<u8>, rule: Rule, label: Option<&[u8]>) -> Result<(), AllocError>
     ensures { OnOk result (out.new.items ≡ out.old.items
         ++ owner_text rule (option_map (λ l. l.now) label.entry)) }
@@ -89,7 +89,7 @@ fn push_owner(out: &mut Vec<u8>, rule: Rule, label: Option<&[u8]>) -> Result<(),
     }
 }
 
-/// Puts the step of a fault at the end; nothing where it is at none.
+/// Appends the step of a fault; nothing where it is at none.
 fn push_step(out: &mut Vec<u8>, step: usize) -> Result<(), AllocError>
     ensures { OnOk result (out.new.items ≡ out.old.items ++ step_text step) }
 {
@@ -100,7 +100,7 @@ fn push_step(out: &mut Vec<u8>, step: usize) -> Result<(), AllocError>
     push_decimal(out, step)
 }
 
-/// Puts the first line of an explanation at the end, with the place of a position in a file, and
+/// Appends the first line of an explanation, with the place of a position in a file, and
 /// with the rule and the step of the fault.
 #[tactic(auto, using(crate::proofs::Explanations::eight_parts))]
 pub(crate) fn push_head_at(
@@ -125,7 +125,7 @@ pub(crate) fn push_head_at(
     Ok(())
 }
 
-/// Puts that of a refusal at the end, with the place of a position in its file.
+/// Appends that of a refusal, with the place of a position in its file.
 pub fn push_head(
     out: &mut Vec<u8>,
     files: &[File],
@@ -150,7 +150,7 @@ fn listing_words(profile: Profile) -> &'static [u8]
     }
 }
 
-/// Puts at the end how many faults of proofs aren't explained under the profile, if there are such.
+/// Appends how many faults of proofs aren't explained under the profile, if there are such.
 #[tactic(auto, using(mm_facts::proofs::DetailTexts::three_parts))]
 fn push_more(out: &mut Vec<u8>, profile: Profile, count: usize) -> Result<(), AllocError>
     ensures { OnOk result (out.new.items ≡ out.old.items ++ more_text profile count) }
@@ -164,7 +164,7 @@ fn push_more(out: &mut Vec<u8>, profile: Profile, count: usize) -> Result<(), Al
     Ok(())
 }
 
-/// Puts at the end how many faults there are.
+/// Appends how many faults there are.
 fn push_count(out: &mut Vec<u8>, count: usize) -> Result<(), AllocError>
     ensures { OnOk result (out.new.items ≡ out.old.items ++ count_text count) }
 {

@@ -316,7 +316,7 @@ fn push_whole(
     }
 }
 
-/// The moves of a whole proof, or those of a known prefix.
+/// The moves of a whole proof, or those of a checked prefix.
 fn judged(parsed: Parsed) -> Steps
     ensures whole { (steps : ReadSteps) → parsed ≡ Parsed.Steps steps → result ≡ steps }
     ensures known { (steps : ReadSteps) → parsed ≡ Parsed.Incomplete steps
@@ -328,7 +328,7 @@ fn judged(parsed: Parsed) -> Steps
     }
 }
 
-/// The moves that the tokens, or those of their known prefix, say.
+/// The moves that the tokens, or those of their checked prefix, say.
 fn steps_of(
     alloc: Global,
     profile: Profile,
@@ -486,7 +486,7 @@ pub fn push_cause(
     }
 }
 
-/// What the known prefix of the tokens, which breaks no rule, leaves on the stack.
+/// What the checked prefix of the tokens, which breaks no rule, leaves on the stack.
 pub fn push_left_over(
     out: &mut Vec<u8>,
     alloc: Global,

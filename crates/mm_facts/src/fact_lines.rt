@@ -81,7 +81,7 @@ pub fn push_step(out: &mut Vec<u8>, label: &[u8]) -> Result<(), AllocError>
 const UNTOLD: usize = 999_999_999;
 
 /// The number of the mark with an index. A number of the proof that is too large for its type is
-/// read as the largest one, so that of a large index only this is told.
+/// read as the largest one, so that of a large index only this is reported.
 #[tactic(auto, using(crate::proofs::DetailTexts::mark_numbers))]
 fn push_mark(out: &mut Vec<u8>, index: usize) -> Result<(), AllocError>
     ensures { OnOk result (out.new.items ≡ out.old.items ++ mark_text (index + 1)) }

@@ -3,7 +3,7 @@
 //! P and L1. It stands on `mm_rules`, `mm_listing`, `mm_places` and `mm_distinct`, and not on the
 //! verdict. Begin with `details`, which has the order of the facts; `disjoint` has the pairs of P11
 //! and P12, `fact_lines` the words of every fact, `fault_places` the places, `suggestion` the label that is
-//! nearest to an unknown one, by the fewest `changes`. What is told is defined in
+//! nearest to an unknown one, by the fewest `changes`. What is reported is defined in
 //! `specs/Explained.antt`.
 #![tactic(auto)]
 

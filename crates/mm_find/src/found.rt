@@ -22,7 +22,7 @@ use mm_text::Statements;
 use mm_verdict::{beginning, load, take_next};
 use std::alloc::{AllocError, Global};
 
-/// Puts the line of the assertion of this kind at the end that was taken last, if it is asked for.
+/// Appends the line of the assertion of this kind that was taken last, if it is asked for.
 fn push_asked(
     out: &mut Vec<u8>,
     alloc: Global,
@@ -46,7 +46,7 @@ fn push_asked(
     Ok(())
 }
 
-/// Puts what is listed of the statement of this kind at the end that was taken last.
+/// Appends what is listed of the statement of this kind that was taken last.
 fn push_listed(
     out: &mut Vec<u8>,
     alloc: Global,
@@ -68,7 +68,7 @@ fn push_listed(
     }
 }
 
-/// Puts what is listed of the statements that are left at the end, one after the other.
+/// Appends what is listed of the statements that are left, one after the other.
 fn list_rest<'a>(
     alloc: Global,
     files: &[File<'a>],

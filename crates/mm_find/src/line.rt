@@ -25,7 +25,7 @@ fn keyword(kind: Kind) -> &'static [u8]
     }
 }
 
-/// Puts a space and the word at the end, for each of these words.
+/// Appends a space and the word, for each of these words.
 fn push_words(out: &mut Vec<u8>, words: &[&[u8]]) -> Result<(), AllocError>
     ensures { OnOk result (out.new.items ≡ out.old.items ++ symbols_text (texts words.now)) }
 {
@@ -43,7 +43,7 @@ fn sign_before(count: usize) -> &'static [u8]
     if count == 0 { b"=>" } else { b"&" }
 }
 
-/// Puts the words of hypotheses at the end, each with its sign behind it.
+/// Appends the words of hypotheses, each with its sign behind it.
 fn push_premises(out: &mut Vec<u8>, hypotheses: &[Vec<&[u8]>]) -> Result<(), AllocError>
     ensures { OnOk result (out.new.items
         ≡ out.old.items ++ symbols_text (premises (expressions_in hypotheses.now))) }
@@ -55,7 +55,7 @@ fn push_premises(out: &mut Vec<u8>, hypotheses: &[Vec<&[u8]>]) -> Result<(), All
     Ok(())
 }
 
-/// Puts the line of an assertion at the end.
+/// Appends the line of an assertion.
 pub(crate) fn push_line(out: &mut Vec<u8>, assertion: &Assertion) -> Result<(), AllocError>
     requires { IsAssertion assertion.now.kind }
     ensures { OnOk result (out.new.items

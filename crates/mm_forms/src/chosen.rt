@@ -14,7 +14,7 @@ use crate::sharing::SharedStep;
 use crate::subtrees::Subtrees;
 use std::alloc::{AllocError, Global};
 
-// Puts a step behind the others. Where it repeats a tree of two nodes, the tree is written out.
+// Appends a step to the others. Where it repeats a tree of two nodes, the tree is written out.
 fn put_chosen(
     chosen: &mut Vec<SharedStep>,
     table: &Subtrees,

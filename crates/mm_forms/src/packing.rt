@@ -71,7 +71,7 @@ fn repeated_trees(alloc: Global, seed: Seed, steps: &[SharedStep]) -> Result<Sub
     Ok(trees)
 }
 
-// Puts the labels of the hypotheses into a set that has none.
+// Adds the labels of the hypotheses to a set that has none.
 fn put_hypotheses(labels: &mut LabelSet, hypotheses: &[Hypothesis]) -> Result<(), AllocError>
     requires { labels.old ≡ [] }
     ensures { OnOk result (AreFirstNumbers [] (label_ids hypotheses.now) labels.new) }
@@ -107,7 +107,7 @@ fn list_labels(
     Ok(listed)
 }
 
-// Puts the codes of a step behind those before it.
+// Appends the codes of a step to those before it.
 fn encode(
     codes: &mut Vec<Code>,
     kept: &mut SubtreeSet,

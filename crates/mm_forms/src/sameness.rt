@@ -13,7 +13,7 @@ use mm_proof::Steps;
 use std::alloc::{AllocError, Global};
 
 /// Whether both lists of steps of the `$p` with this number spell the same tree. Each is handed in
-/// where it makes one tree: so does what `verify` accepts. The trees are told by numbers of their
+/// where it makes one tree: so does what `verify` accepts. The trees are given by numbers of their
 /// distinct subtrees, and never written out.
 ///
 /// # Errors

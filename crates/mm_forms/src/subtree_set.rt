@@ -72,7 +72,7 @@ impl SubtreeSet {
         }
     }
 
-    /// Puts the subtree behind the others, if it isn't among them.
+    /// Appends the subtree to the others, if it isn't among them.
     #[tactic(auto, using(crate::proofs::PackedProofs::SubtreeNumbers::subtree_insertions))]
     pub(crate) fn add(&mut self, tree: Subtree) -> Result<(), AllocError>
         ensures { OnOk result (Adds self.old tree self.new) }

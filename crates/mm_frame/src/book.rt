@@ -254,7 +254,7 @@ impl<'a> Book<'a> {
         is_label(&self.tables, id)
     }
 
-    /// A label. Of a number that no label has, nothing is told: so it is of the next two too.
+    /// A label. Of a number that no label has, nothing is reported: so it is of the next two too.
     #[tactic(auto, using(crate::proofs::Names::LabelNumbers::numbered_from_get))]
     pub fn label(&self, id: LabelId) -> &'a [u8]
         ensures { (s : Sentence) → slice_get (labelled_sentences self.now.statements) id.0 ≡ Some s

@@ -23,7 +23,7 @@ pub(crate) fn put<T: Drop>(list: &mut Vec<T>, value: T)
     let _ = list.push(value);
 }
 
-/// Makes room for elements in a list whose indices are told by numbers of 32 bits. Where it would
+/// Makes room for elements in a list whose indices are given by numbers of 32 bits. Where it would
 /// be longer than such numbers can say, more is asked for than there can be, so that it is refused.
 pub(crate) fn reserve_numbered<T: Drop>(list: &mut Vec<T>, more: usize) -> Result<(), AllocError>
     ensures items { list.new.items ≡ list.old.items }

@@ -86,7 +86,7 @@ fn ends(bytes: &[u8]) -> (u64, u64)
 /// A name as a key.
 ///
 /// Its ends stand beside it as numbers: its first bytes and its last, 8 of each, or 4, or 2, as
-/// many as it has. A name of 2 to 16 bytes is told by them and its length, without a look at where
+/// many as it has. A name of 2 to 16 bytes is given by them and its length, without a look at where
 /// it stands in a file, which is mostly not in the cache.
 #[derive(Drop)]
 pub struct Name<'a> {

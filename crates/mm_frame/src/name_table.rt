@@ -89,7 +89,7 @@ impl<'a> Names<'a> {
     }
 
     // The number of a name, if it is one of them, by its hash. It is a call, as a name of one byte
-    // is told without it.
+    // is reported without it.
     #[inline(never)]
     fn find_by_hash(&self, name: &[u8]) -> Option<u32>
         ensures { MatchOption

@@ -11,7 +11,7 @@ use crate::number::Sym;
 use std::alloc::{AllocError, Global};
 
 /// For each number of a symbol an index among hypotheses: where it is noted, the `$f` of a variable
-/// is found at once. What was noted of other hypotheses stays, and is told by what stands at the
+/// is found at once. What was noted of other hypotheses stays, and is given by what stands at the
 /// index; so the room is used again for each assertion, and is never cleared.
 #[derive(Drop)]
 pub(crate) struct NotedIndices {

@@ -64,7 +64,7 @@ pub fn packed_texts_tell()
 
 /// Saving changes nothing that is answered: where a profile accepts the files, then with the new
 /// bytes in place of the old they have the same verdict under it, each complete proof has the same
-/// tree, and each theorem rests on the same axioms and unproved theorems.
+/// tree, and each theorem depends on the same axioms and unproved theorems.
 pub fn saving_changes_no_answer()
     ensures { SavingChangesNoAnswer }
 {}
@@ -87,7 +87,7 @@ pub fn saving_again_changes_nothing()
 
 /// Saving all proofs of a file changes nothing that is answered: where a profile accepts the files,
 /// then with the new bytes in place of the old they have the same verdict under it, each complete
-/// proof has the same tree, and each theorem rests on the same axioms and unproved theorems.
+/// proof has the same tree, and each theorem depends on the same axioms and unproved theorems.
 pub fn saving_all_changes_no_answer()
     ensures { SavingAllChangesNoAnswer }
 {}
@@ -121,7 +121,7 @@ pub fn small_files_do_not_grow()
 /// by which the proofs were found: with the new bytes in place of the old, the files say the same and
 /// have the same verdicts under it. Of the other profile nothing is said. Each proof is as it was, or
 /// stands in that file, has the strict form and spells a shorter tree of its theorem. No theorem
-/// rests on an axiom or an unproved theorem on which it didn't rest before.
+/// depends on an axiom or an unproved theorem on which it didn't rest before.
 pub fn shortening_changes_no_verdict()
     ensures { ShorteningChangesNoVerdict }
 {}

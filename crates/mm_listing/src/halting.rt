@@ -154,14 +154,14 @@ fn halt_of_codes(
     halt_in_frame(alloc, &table, codes, prefix)
 }
 
-/// Where the moves of a proof, or of the known prefix of one, of the `$p` with this number stop.
+/// Where the moves of a proof, or of the checked prefix of one, of the `$p` with this number stop.
 ///
 /// # Errors
 ///
 /// Where a growth was refused.
 pub fn halt_of(alloc: Global, book: &Book, id: LabelId, steps: &Steps) -> Result<Halt, AllocError>
     requires steps { AreSteps book.now.statements id.0 steps.now.moves }
-    // The moves before the place passed, and it is told what they left and why no more pass.
+    // The moves before the place passed, and it is reported what they left and why no more pass.
     ensures halted { IfOk result (λ halt. OfMoves book.now.statements id.0 steps.now.moves
         (λ index s moves. HaltsProof (limit_of steps.now.profile) book.now.statements
         (take index book.now.statements) s steps.now.prefix moves halt)) }

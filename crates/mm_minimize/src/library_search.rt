@@ -101,7 +101,7 @@ impl<'c> LibrarySearch<'c> {
         }
     }
 
-    /// What an assertion rests on.
+    /// What an assertion depends on.
     fn rests(&self, id: LabelId) -> Rests<'c> {
         let kept = self.kept;
         match kept.index_of(id) {

@@ -21,7 +21,7 @@ use mm_verdict::{Checked, Watch};
 use std::alloc::Global;
 
 /// The small text of the shortest proof of the `$p` with this label that is known: of its own,
-/// or of one that the search gives, where that has fewer bytes, no more steps, and rests on no
+/// or of one that the search gives, where that has fewer bytes, no more steps, and depends on no
 /// further axiom. Marks and mathboxes are heeded: an assertion isn't newly used if the comment
 /// right before it says `(New usage is discouraged.)`, or if it stands in another mathbox; and
 /// the proof stays if that of the theorem says `(Proof modification is discouraged.)`.

@@ -94,7 +94,7 @@ fn beginnings(alloc: Global, count: usize) -> Result<Vec<Passed>, AllocError>
     Ok(passed)
 }
 
-/// Puts at the end what is said of each labelled statement that is left.
+/// Appends what is said of each labelled statement that is left.
 fn read_remarks<'a>(
     files: &[File],
     statements: &mut Statements<'a>,

@@ -95,7 +95,7 @@ impl Sums {
         self.own.bytes.saturating_sub(self.new.bytes)
     }
 
-    /// Puts the line of the sums at the end.
+    /// Appends the line of the sums.
     fn push(self, out: &mut Vec<u8>) -> Result<(), AllocError>
         ensures { OnOk result ((lines : List ShorterLine) → AreSums lines self
             → out.new.items ≡ out.old.items ++ sums_text lines) }
@@ -108,7 +108,7 @@ impl Sums {
     }
 }
 
-/// Puts the sizes before and after at the end.
+/// Appends the sizes before and after.
 fn push_sizes(out: &mut Vec<u8>, own: Sizes, new: Sizes) -> Result<(), AllocError>
     ensures { OnOk result (out.new.items
         ≡ out.old.items ++ sizes_text (plain_size own) (plain_size new)) }
@@ -119,7 +119,7 @@ fn push_sizes(out: &mut Vec<u8>, own: Sizes, new: Sizes) -> Result<(), AllocErro
     push_number(out, new.steps)
 }
 
-/// Puts the mark of a duplicate at the end, if it is one.
+/// Appends the mark of a duplicate, if it is one.
 fn push_mark(out: &mut Vec<u8>, is_duplicate: bool) -> Result<(), AllocError>
     ensures { OnOk result (out.new.items ≡ out.old.items ++ mark_text is_duplicate) }
 {
@@ -130,7 +130,7 @@ fn push_mark(out: &mut Vec<u8>, is_duplicate: bool) -> Result<(), AllocError>
     }
 }
 
-/// Puts the line of the theorem with a label at the end, whose shorter proof newly uses these.
+/// Appends the line of the theorem with a label, whose shorter proof newly uses these.
 #[tactic(auto, using(crate::proofs::ShorterTheorems::ShorterLists::line_text))]
 fn push_line(
     out: &mut Vec<u8>,
@@ -153,7 +153,7 @@ fn push_line(
 }
 
 impl Listing {
-    /// Puts the line of the theorem with a label, which has this shorter proof.
+    /// Appends the line of the theorem with a label, which has this shorter proof.
     fn push(
         &mut self,
         alloc: Global,
@@ -174,7 +174,7 @@ impl Listing {
         Ok(())
     }
 
-    /// Puts the line of the theorem with a label, if a shorter proof of it was found.
+    /// Appends the line of the theorem with a label, if a shorter proof of it was found.
     fn tell(
         &mut self,
         alloc: Global,

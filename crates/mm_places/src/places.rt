@@ -137,7 +137,7 @@ pub fn move_place(tokens: &[&[u8]], number: usize) -> Option<(usize, usize)>
         → SayMoves before s (texts tokens.now) moves → number < length moves
         → (token : ℕ) × (byte : ℕ) × (result ≡ Some (token, byte)) }
 
-    // So is each move of the known prefix of an incomplete proof, where it stands in the prefix.
+    // So is each move of the checked prefix of an incomplete proof, where it stands in the prefix.
     ensures known { (token byte : ℕ)
         → IsMovePlace (known_prefix (texts tokens.now)) number token byte
         → result ≡ Some (token, byte) }

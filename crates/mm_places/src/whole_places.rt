@@ -320,7 +320,7 @@ fn place_in(
 
 /// Where the tokens, as a proof of the `$p` with this number, break the rule, which is the first of
 /// P1 to P5 and then P15 that they break over the whole of them: the index of the token, and the
-/// byte in it. Where a step is unknown, it is that of the known prefix.
+/// byte in it. Where a step is unknown, it is that of the checked prefix.
 ///
 /// # Errors
 ///

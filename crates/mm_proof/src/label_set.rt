@@ -53,7 +53,7 @@ impl LabelSet {
         }
     }
 
-    /// Puts the label behind the others, if it isn't among them, and answers whether it wasn't.
+    /// Appends the label to the others, if it isn't among them, and answers whether it wasn't.
     #[tactic(auto, using(crate::proofs::ProofNumbers::Insertions::insertions))]
     pub fn add(&mut self, id: LabelId) -> Result<bool, AllocError>
         ensures { IfOk result (λ is_new. AddsNew self.old id.0 is_new self.new) }

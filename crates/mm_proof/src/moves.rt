@@ -41,7 +41,7 @@ impl Model for Steps {
 }
 
 impl Steps {
-    /// Whether these are the moves of the known prefix of an incomplete proof: those before its
+    /// Whether these are the moves of the checked prefix of an incomplete proof: those before its
     /// first unknown step (the Metamath book, section 4.4.4).
     pub fn is_prefix(&self) -> bool
         ensures { result ≡ self.now.prefix }
@@ -53,7 +53,7 @@ impl Steps {
 /// What the tokens of a proof are.
 #[derive(Drop)]
 pub enum Parsed {
-    /// A token holds a `?`: a step is unknown. These are the moves of the known prefix.
+    /// A token holds a `?`: a step is unknown. These are the moves of the checked prefix.
     Incomplete(Steps),
     /// The moves.
     Steps(Steps),

@@ -117,7 +117,7 @@ fn make_entry_room(entries: &mut Vec<LabelId>) -> Result<(), AllocError>
 }
 
 // The index of the label among the entries, which it is put behind where it isn't among them. What
-// was noted of it for another proof is told by what stands at the index.
+// was noted of it for another proof is given by what stands at the index.
 fn index_of(
     entries: &mut Vec<LabelId>,
     indices: &mut Vec<u32>,
@@ -404,7 +404,7 @@ pub(crate) fn fill_under<'a>(
 }
 
 /// The moves that the tokens say as a proof of the `$p` with this number, and whether they are those
-/// of the known prefix of another. They are read in these lists, whose entries and codes go into
+/// of the checked prefix of another. They are read in these lists, whose entries and codes go into
 /// the steps.
 pub(crate) fn read_steps<'a>(
     lists: &mut ParseLists<'a>,
@@ -440,7 +440,7 @@ pub(crate) fn read_steps<'a>(
 }
 
 // The moves that the tokens say as a proof of the `$p` with this number, and whether they are those
-// of the known prefix of another; read in lists of its own.
+// of the checked prefix of another; read in lists of its own.
 fn steps_of(
     alloc: Global,
     profile: Profile,
@@ -468,7 +468,7 @@ fn steps_of(
     steps
 }
 
-// The moves that the known prefix of the tokens says as a proof of the `$p` with this number.
+// The moves that the checked prefix of the tokens says as a proof of the `$p` with this number.
 #[tactic(auto, using(crate::proofs::ProofTokens::QuestionMarks::prefix_room))]
 fn prefix_steps(
     alloc: Global,
@@ -512,7 +512,7 @@ pub fn tokens_with<'a>(alloc: Global, pieces: &[&'a [u8]]) -> Result<Vec<Token<'
 
 impl Steps {
     /// The moves that the tokens say as a proof of the `$p` with this number, which are judged
-    /// under the profile; or, where a step is unknown, those of the known prefix; or the first of
+    /// under the profile; or, where a step is unknown, those of the checked prefix; or the first of
     /// P1 to P5 and then P15 that they break, at step 0. The prefix is judged as the tokens of a
     /// whole proof are.
     pub fn parse(
@@ -525,7 +525,7 @@ impl Steps {
         requires proof { (index : ℕ) × (s : Sentence)
             × IsProofNumber book.now.statements id.0 index s }
         requires room { sum_by length (texts tokens.now) ≤ most_bytes }
-        // A proof with an unknown step is told apart.
+        // A proof with an unknown step is reported apart.
         ensures incomplete { (steps : ReadSteps) → result ≡ Ok (Parsed.Incomplete steps)
             → IsIncomplete (texts tokens.now) × (steps.prefix ≡ true) }
         ensures complete { (steps : ReadSteps) → result ≡ Ok (Parsed.Steps steps)

@@ -104,7 +104,7 @@ fn text_up_to<'a>(
     Ok(text)
 }
 
-/// The known prefix of a proof, as the tokens of a proof.
+/// The checked prefix of a proof, as the tokens of a proof.
 #[tactic(auto, using(crate::proofs::ProofTokens::QuestionMarks::known_cut))]
 pub fn known_prefix<'a>(alloc: Global, tokens: &[Token<'a>]) -> Result<Vec<Token<'a>>, AllocError>
     ensures { IfOk result (λ prefix.

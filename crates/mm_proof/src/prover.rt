@@ -39,7 +39,7 @@ const STACK_SYMBOL_BYTES: usize = 16;
 /// What a proof without a fault is.
 #[derive(Clone, Copy, PartialEq, Eq, Debug)]
 pub enum Proved {
-    /// A token holds a `?`: a step is unknown. The known prefix breaks no rule.
+    /// A token holds a `?`: a step is unknown. The checked prefix breaks no rule.
     Incomplete,
     /// It proves its statement.
     Complete,
@@ -158,7 +158,7 @@ impl<'a> Prover<'a> {
     ) -> Result<Proved, ProofFault>
         requires { (index : ℕ) × (s : Sentence)
             × IsProofNumber self.old.book.statements id.0 index s }
-        // A proof with an unknown step is told apart: its known prefix breaks no rule.
+        // A proof with an unknown step is reported apart: its checked prefix breaks no rule.
         ensures incomplete { result ≡ Ok Proved.Incomplete
             → IsIncomplete (token_texts tokens.now)
             × OfProof self.old.book.statements id.0 (λ index s.
@@ -236,7 +236,7 @@ impl<'a> Prover<'a> {
         }
     }
 
-    // Whether the known prefix of the tokens, one of which holds a `?`, breaks no rule.
+    // Whether the checked prefix of the tokens, one of which holds a `?`, breaks no rule.
     fn allow(
         &mut self,
         profile: Profile,
@@ -343,7 +343,7 @@ fn prove_tokens<'a>(
     }
 }
 
-// Whether the known prefix of the tokens breaks no rule, or its first fault.
+// Whether the checked prefix of the tokens breaks no rule, or its first fault.
 fn allow_tokens<'a>(
     scratch: &mut Scratch<'a>,
     book: &Book,

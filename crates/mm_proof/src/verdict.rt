@@ -163,7 +163,7 @@ pub fn verify<S: Store + Drop>(
         → FailsWith (limit_of steps.now.profile) book.now.statements index s moves rule step
         → IsUnlessMemory result (Err (ProofFault.Rule rule step))) }
 
-    // The moves of a prefix that is answered `Ok` pass, and no assertion is told.
+    // The moves of a prefix that is answered `Ok` pass, and no assertion is reported.
     ensures passed { steps.now.prefix ≡ true
         → IfOk result (λ used. (used ≡ []) × OfMoves book.now.statements id.0 steps.now.moves
         (λ index s moves. Pass (IsWithin (limit_of steps.now.profile))

@@ -28,7 +28,7 @@ pub fn one_tree()
     ensures { OneTree }
 {}
 
-/// What moves make is told by their word.
+/// What moves make is given by their word.
 ///
 /// The moves of a proof that make trees have a word, the labels that these trees spell, and each
 /// kept tree spells the word that stands in place of its tag. After statements that break no rule
@@ -39,7 +39,7 @@ pub fn made_by_word()
     ensures { MadeByWord }
 {}
 
-/// What is proved is told by a word.
+/// What is proved is given by a word.
 ///
 /// After statements that break no rule of meaning, the moves of a proof make a tree that derives
 /// the statement's expression exactly if their word spells a tree that does. So sharing steps by
@@ -49,7 +49,7 @@ pub fn by_word()
     ensures { ByWord }
 {}
 
-/// A normal proof is told by its labels.
+/// A normal proof is given by its labels.
 ///
 /// After statements that break no rule of meaning, a normal proof that breaks no rule over the
 /// whole of it proves its statement exactly if its labels spell a tree that derives the statement's
@@ -69,7 +69,7 @@ pub fn one_verdict_under()
     ensures { OneVerdictUnder }
 {}
 
-/// Each known prefix has one verdict under a profile.
+/// Each checked prefix has one verdict under a profile.
 ///
 /// The same as of a whole proof holds of the known prefix of an incomplete one (the Metamath book,
 /// section 4.4.4).

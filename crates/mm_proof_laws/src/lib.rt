@@ -1,4 +1,4 @@
-//! Laws of proofs and of their forms, which users of the library may rest on.
+//! Laws of proofs and of their forms, which users of the library may depend on.
 //! Each is a function that does nothing: its contract is the law. It stands on `mm_forms` and
 //! `mm_listing`, and nothing but the tests stands on it. Begin with `laws`.
 #![tactic(auto)]

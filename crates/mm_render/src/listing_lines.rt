@@ -19,7 +19,7 @@ use mm_step::ProofFault;
 use mm_verdict::Theorem;
 use std::alloc::{AllocError, Global};
 
-/// Puts what a step is called at the end.
+/// Appends what a step is called.
 pub(crate) fn push_name(out: &mut Vec<u8>, book: &Book, name: Name) -> Result<(), AllocError>
     ensures { OnOk result ((called : StepName) → IsNameOf book.now.statements name called
         → out.new.items ≡ out.old.items ++ name_text called) }
@@ -33,7 +33,7 @@ pub(crate) fn push_name(out: &mut Vec<u8>, book: &Book, name: Name) -> Result<()
     }
 }
 
-/// Puts the line of the step with a number at the end.
+/// Appends the line of the step with a number.
 fn push_line(out: &mut Vec<u8>, book: &Book, number: usize, line: &Line) -> Result<(), AllocError>
     requires { (step : ListedStep) × TellsStep book.now.statements line.now step }
     ensures { OnOk result ((step : ListedStep) → TellsStep book.now.statements line.now step

@@ -31,7 +31,7 @@ fn keyword(kind: LabelKind) -> &'static [u8]
     }
 }
 
-/// Puts the line of a labelled statement at the end.
+/// Appends the line of a labelled statement.
 pub(crate) fn push_statement(out: &mut Vec<u8>, book: &Book, id: LabelId) -> Result<(), AllocError>
     requires { id.0 < length (labelled_sentences book.now.statements) }
     ensures { OnOk result ((s : Sentence)
@@ -45,7 +45,7 @@ pub(crate) fn push_statement(out: &mut Vec<u8>, book: &Book, id: LabelId) -> Res
     Ok(())
 }
 
-/// Puts the lines of hypotheses at the end.
+/// Appends the lines of hypotheses.
 fn push_hypotheses(
     out: &mut Vec<u8>,
     book: &Book,
@@ -64,7 +64,7 @@ fn push_hypotheses(
     Ok(())
 }
 
-/// Puts the line of a mandatory pair at the end.
+/// Appends the line of a mandatory pair.
 fn push_pair(out: &mut Vec<u8>, x: &[u8], y: &[u8]) -> Result<(), AllocError>
     ensures { OnOk result (out.new.items ≡ out.old.items ++ pair_line (x.now, y.now)) }
 {
@@ -75,7 +75,7 @@ fn push_pair(out: &mut Vec<u8>, x: &[u8], y: &[u8]) -> Result<(), AllocError>
     Ok(())
 }
 
-/// Puts the lines of mandatory pairs at the end.
+/// Appends the lines of mandatory pairs.
 fn push_pairs(out: &mut Vec<u8>, book: &Book, pairs: &[DistinctPair]) -> Result<(), AllocError>
     requires { (i : ℕ) (pair : DistinctPair) → slice_get pairs.now i ≡ Some pair
         → (pair.variables.0.0 < length (symbols_of book.now.statements))
@@ -93,7 +93,7 @@ fn push_pairs(out: &mut Vec<u8>, book: &Book, pairs: &[DistinctPair]) -> Result<
     Ok(())
 }
 
-/// Puts the line of a `$d` at the end that says more than mandatory pairs.
+/// Appends the line of a `$d` that says more than mandatory pairs.
 fn push_further(out: &mut Vec<u8>, book: &Book, index: usize) -> Result<(), AllocError>
     requires { index < length book.now.statements }
     ensures { OnOk result ((d : Sentence) → slice_get book.now.statements index ≡ Some d
@@ -105,7 +105,7 @@ fn push_further(out: &mut Vec<u8>, book: &Book, index: usize) -> Result<(), Allo
     Ok(())
 }
 
-/// Puts the lines of those at these indices at the end.
+/// Appends the lines of those at these indices.
 fn push_all_further(out: &mut Vec<u8>, book: &Book, indices: &[usize]) -> Result<(), AllocError>
     requires { (further : List Sentence)
         × (map (slice_get book.now.statements) indices.now ≡ map Some further) }
@@ -119,7 +119,7 @@ fn push_all_further(out: &mut Vec<u8>, book: &Book, indices: &[usize]) -> Result
     Ok(())
 }
 
-/// Puts the lines of the mandatory hypotheses and pairs of an assertion at the end.
+/// Appends the lines of the mandatory hypotheses and pairs of an assertion.
 fn push_frame(out: &mut Vec<u8>, book: &Book, id: LabelId) -> Result<(), AllocError>
     requires { IsAssertionNumber book.now.statements id.0 }
     ensures { OnOk result ((index : ℕ) (s : Sentence)
@@ -132,7 +132,7 @@ fn push_frame(out: &mut Vec<u8>, book: &Book, id: LabelId) -> Result<(), AllocEr
     push_pairs(out, book, frame.pairs())
 }
 
-/// Puts the lines of the `$d` at the end that say more than the mandatory pairs of an assertion.
+/// Appends the lines of the `$d` that say more than the mandatory pairs of an assertion.
 fn push_more(out: &mut Vec<u8>, alloc: Global, book: &Book, id: LabelId) -> Result<(), AllocError>
     requires { IsAssertionNumber book.now.statements id.0 }
     ensures { OnOk result ((index : ℕ) (s : Sentence)
@@ -144,7 +144,7 @@ fn push_more(out: &mut Vec<u8>, alloc: Global, book: &Book, id: LabelId) -> Resu
     push_all_further(out, book, &indices)
 }
 
-/// Puts the lines at the end that are told before that of a labelled statement.
+/// Appends the lines that are reported before that of a labelled statement.
 fn push_before(out: &mut Vec<u8>, alloc: Global, book: &Book, id: LabelId) -> Result<(), AllocError>
     requires { id.0 < length (labelled_sentences book.now.statements) }
     ensures { OnOk result ((index : ℕ) (s : Sentence)
@@ -163,7 +163,7 @@ fn push_before(out: &mut Vec<u8>, alloc: Global, book: &Book, id: LabelId) -> Re
     }
 }
 
-/// Puts what is told of a labelled statement at the end, but for its place.
+/// Appends what is told of a labelled statement, but for its place.
 pub(crate) fn push_told(
     out: &mut Vec<u8>,
     alloc: Global,

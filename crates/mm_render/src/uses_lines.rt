@@ -22,7 +22,7 @@ use mm_step::ProofFault;
 use mm_verdict::Theorem;
 use std::alloc::{AllocError, Global};
 
-/// Puts a comma and the number at the end, for each of these steps.
+/// Appends a comma and the number, for each of these steps.
 fn push_more(out: &mut Vec<u8>, steps: &[usize]) -> Result<(), AllocError>
     ensures { OnOk result (out.new.items ≡ out.old.items ++ more_uses_text steps.now) }
 {
@@ -33,7 +33,7 @@ fn push_more(out: &mut Vec<u8>, steps: &[usize]) -> Result<(), AllocError>
     Ok(())
 }
 
-/// Puts the numbers of the steps that a step uses at the end.
+/// Appends the numbers of the steps that a step uses.
 fn push_uses(out: &mut Vec<u8>, used: &[usize]) -> Result<(), AllocError>
     ensures { OnOk result (out.new.items ≡ out.old.items ++ text_of_uses used.now) }
 {
@@ -45,7 +45,7 @@ fn push_uses(out: &mut Vec<u8>, used: &[usize]) -> Result<(), AllocError>
     push_more(out, more)
 }
 
-/// Puts the line of the step with a number at the end, which uses these.
+/// Appends the line of the step with a number, which uses these.
 fn push_used(
     out: &mut Vec<u8>,
     book: &Book,
@@ -67,7 +67,7 @@ fn push_used(
     Ok(())
 }
 
-/// The text of those of these lines that are told.
+/// The text of those of these lines that are reported.
 fn text_of(
     alloc: Global,
     book: &Book,
@@ -92,7 +92,7 @@ fn text_of(
     Ok(out)
 }
 
-/// All of so many steps are told.
+/// All of so many steps are reported.
 #[tactic(auto, using(crate::proofs::ToldProofs::ShownUses::one_more_flag))]
 fn all_told(alloc: Global, count: usize) -> Result<Vec<bool>, AllocError>
     ensures { IfOk result (λ told. told.items ≡ replicate count true) }
@@ -104,7 +104,7 @@ fn all_told(alloc: Global, count: usize) -> Result<Vec<bool>, AllocError>
     Ok(told)
 }
 
-/// Which of the steps are told.
+/// Which of the steps are reported.
 fn told_of(alloc: Global, used: &UsedSteps, essential: bool) -> Result<Vec<bool>, AllocError>
     ensures { IfOk result (λ told.
         AreTold essential used.now.root (rows_of used.now.uses.items) told.items) }

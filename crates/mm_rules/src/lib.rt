@@ -1,6 +1,6 @@
 //! The rules by name and by code, the judgement of one statement, and the words of replies.
 //! It answers which rule a statement breaks (`judge`), and keeps what each proof uses (`kept`). It
-//! stands on `mm_text` and `mm_proof`. What is at fault is told by a `Refusal`, with its place.
+//! stands on `mm_text` and `mm_proof`. What is at fault is given by a `Refusal`, with its place.
 //! Begin with `rule` and `judge`; what a verdict is stands in `specs/Verdict.antt`.
 #![tactic(auto)]
 

@@ -189,7 +189,7 @@ pub fn place_of(files: &[File], file: usize, at: usize) -> Place
     }
 }
 
-/// Puts the text of a place at the end.
+/// Appends the text of a place.
 pub fn push_place(out: &mut Vec<u8>, files: &[File], place: Place) -> Result<(), AllocError>
     ensures { OnOk result (out.new.items ≡ out.old.items
         ++ place_text (map plain_file files.now) place) }

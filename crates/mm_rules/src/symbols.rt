@@ -11,7 +11,7 @@ use crate::words::push_word;
 use mm_frame::{Book, Sym};
 use std::alloc::AllocError;
 
-/// Puts a space and the symbol at the end, for each of these symbols.
+/// Appends a space and the symbol, for each of these symbols.
 #[tactic(auto, using(crate::proofs::SymbolWords::symbol_steps))]
 pub fn push_symbols(out: &mut Vec<u8>, book: &Book, symbols: &[Sym]) -> Result<(), AllocError>
     requires { AllByRecursion (λ n. n < length (symbols_of book.now.statements))

@@ -5,7 +5,7 @@ ghost use Rattle.std.specs.Prelude.{◌≡◌, ◌++◌, OnOk, codes, decimal};
 use itoa::Buffer;
 use std::alloc::AllocError;
 
-/// Puts a number, in decimal, at the end.
+/// Appends a number, in decimal,.
 pub fn push_decimal(out: &mut Vec<u8>, number: usize) -> Result<(), AllocError>
     ensures { OnOk result (out.new.items ≡ out.old.items ++ decimal number) }
 {
@@ -13,7 +13,7 @@ pub fn push_decimal(out: &mut Vec<u8>, number: usize) -> Result<(), AllocError>
     out.extend_from_slice(digits.format(number).as_bytes())
 }
 
-/// Puts a space and a word at the end.
+/// Appends a space and a word.
 pub fn push_word(out: &mut Vec<u8>, word: &[u8]) -> Result<(), AllocError>
     ensures { OnOk result (out.new.items ≡ out.old.items ++ codes " " ++ word.now) }
 {
@@ -21,7 +21,7 @@ pub fn push_word(out: &mut Vec<u8>, word: &[u8]) -> Result<(), AllocError>
     out.extend_from_slice(word)
 }
 
-/// Puts a space and a number, in decimal, at the end.
+/// Appends a space and a number, in decimal,.
 pub fn push_number(out: &mut Vec<u8>, number: usize) -> Result<(), AllocError>
     ensures { OnOk result (out.new.items ≡ out.old.items ++ codes " " ++ decimal number) }
 {

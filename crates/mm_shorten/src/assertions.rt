@@ -67,12 +67,12 @@ pub struct Entry<'u> {
     /// The number of its mathbox, from 1 on; 0 outside of all. An assertion of a mathbox isn't
     /// newly used outside of it.
     pub mathbox: u32,
-    /// What it rests on.
+    /// What it depends on.
     pub rests: Rests<'u>,
 }
 
 /// The assertions of a database as far as they were entered: those that proofs may use, and what
-/// all of them rest on.
+/// all of them depend on.
 #[derive(Drop)]
 pub struct Library {
     pub(crate) alloc: Global,
@@ -185,7 +185,7 @@ impl Library {
         Ok(essentials)
     }
 
-    // Puts a template behind the others.
+    // Appends a template to the others.
     fn put(&mut self, template: Template) -> Result<(), AllocError> {
         let candidate = self.candidate(&template)?;
         for _ in self.concluding.len()..self.patterns.count() as usize {

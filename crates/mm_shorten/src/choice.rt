@@ -173,7 +173,7 @@ impl<'g> Choice<'g> {
         }
     }
 
-    /// What the edges cost of the node and of all that it rests on, each once.
+    /// What the edges cost of the node and of all that it depends on, each once.
     pub(crate) fn closure(&mut self, node: u32, budget: &mut Budget) -> Result<u64, AllocError> {
         let children = self.order.children_below(&self.chosen, node, budget)?;
         Ok(children.saturating_mul(self.price.step))
@@ -185,7 +185,7 @@ impl<'g> Choice<'g> {
     }
 
     /// Whether the edge may be chosen for the node now: its children are derived, and none of them
-    /// rests on the node.
+    /// depends on the node.
     pub(crate) fn may(
         &mut self,
         node: u32,
@@ -215,7 +215,7 @@ impl<'g> Choice<'g> {
         self.chosen.edges
     }
 
-    /// The nodes that are reached and have an edge, each before those that it rests on.
+    /// The nodes that are reached and have an edge, each before those that it depends on.
     pub(crate) fn live(&self) -> Result<Vec<u32>, AllocError> {
         let mut live = Vec::new(self.alloc);
         for node in 0..end_of(self.references.len()) {

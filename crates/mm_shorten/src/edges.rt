@@ -66,7 +66,7 @@ struct Ask {
 pub(crate) struct Search<'s, 't, 'b, 'a> {
     pub(crate) library: &'s Library,
     pub(crate) theorem: &'s Theorem<'t, 'b, 'a>,
-    /// What the theorem rests on.
+    /// What the theorem depends on.
     pub(crate) grounds: &'s [u32],
     pub(crate) goals: &'s Goals,
     /// Whether one `$e` may be missing.

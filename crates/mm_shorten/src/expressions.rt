@@ -83,7 +83,7 @@ impl Expressions {
         Ok(number)
     }
 
-    // Puts an expression behind the others, and counts its symbols.
+    // Appends an expression to the others, and counts its symbols.
     fn put(&mut self, symbols: &[Sym]) -> Result<(), AllocError>
         ensures { OnOk result (self.new.symbols
             ≡ min usize.MAX (self.old.symbols + length symbols.now)) }

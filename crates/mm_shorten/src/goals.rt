@@ -19,7 +19,7 @@ pub struct Goal {
 }
 
 /// The nodes that a small proof of the root by these edges needs, without hypotheses, each before
-/// those that it rests on.
+/// those that it depends on.
 ///
 /// # Errors
 ///

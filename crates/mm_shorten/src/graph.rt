@@ -103,7 +103,7 @@ impl Graph {
         self.hypothesis_of(node).is_some() || !self.edges_of(node).is_empty()
     }
 
-    /// Puts an edge behind those of the node, and answers whether it did: not where the node has
+    /// Appends an edge to those of the node, and answers whether it did: not where the node has
     /// such an edge or `MOST_EDGES`, is a hypothesis or isn't there, or all edges and their children
     /// are `MOST_HELD`.
     ///

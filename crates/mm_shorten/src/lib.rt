@@ -6,7 +6,7 @@
 //! Of each public call is proved that it ends, and that indices, arithmetic and memory are safe; of
 //! `Budget` what is left, and of `Library::add_edges` that it puts nothing back. Nothing is proved
 //! of what the search finds: neither that the text is a proof, nor that it is smaller, nor what it
-//! rests on.
+//! depends on.
 #![tactic(auto)]
 
 mod apart;

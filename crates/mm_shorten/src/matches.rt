@@ -120,7 +120,7 @@ impl Matches {
         Ok(())
     }
 
-    /// Puts the rows into the lists of their patterns.
+    /// Adds the rows to the lists of their patterns.
     pub(crate) fn list_all(&mut self) -> Result<(), AllocError> {
         for index in 0..self.rows.len() {
             if let Some(row) = self.row(index) {
@@ -204,7 +204,7 @@ impl Matches {
         Ok(list)
     }
 
-    // Puts the index of a row into a list, where there is room for it.
+    // Adds the index of a row to a list, where there is room for it.
     fn put(&mut self, list: u32, row: usize) -> Result<(), AllocError> {
         if !has_room(self.listed) {
             return Ok(());

@@ -1,4 +1,4 @@
-//! An order of all nodes, each behind those that it rests on.
+//! An order of all nodes, each behind those that it depends on.
 
 use crate::budget::Budget;
 use crate::chosen::Chosen;
@@ -70,7 +70,7 @@ impl Order {
         Ok(())
     }
 
-    // Places the node of the path and all that it rests on.
+    // Places the node of the path and all that it depends on.
     fn place_path(&mut self, chosen: &Chosen, budget: &mut Budget) -> Result<(), AllocError> {
         for _ in 0..budget.left() {
             budget.take(1);

@@ -135,7 +135,7 @@ fn code_of(index: usize) -> Code
     }
 }
 
-// Puts a code that can be written in letters behind others.
+// Appends a code that can be written in letters to others.
 fn push_code(codes: &mut Vec<Code>, code: Code) -> Result<(), AllocError>
     requires { HasSpelling code }
     ensures { OnOk result (All HasSpelling codes.old.items → All HasSpelling codes.new.items) }
@@ -166,7 +166,7 @@ impl Tags {
     }
 }
 
-// Puts the codes of a step that makes a node behind those before it.
+// Appends the codes of a step that makes a node to those before it.
 fn make(
     codes: &mut Vec<Code>,
     tags: &mut Tags,

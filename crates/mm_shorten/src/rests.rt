@@ -1,4 +1,4 @@
-//! What assertions rest on, as sets of bits.
+//! What assertions depend on, as sets of bits.
 
 use crate::trie::next_number;
 use mm_frame::LabelId;
@@ -6,12 +6,12 @@ use std::alloc::{AllocError, Global};
 
 const WORD_BITS: usize = 32;
 
-/// What an assertion rests on.
+/// What an assertion depends on.
 #[derive(Clone, Copy)]
 pub enum Rests<'u> {
     /// On itself: an axiom, or a theorem whose proof is incomplete.
     Itself,
-    /// On what these assertions rest on: those that its proof uses.
+    /// On what these assertions depend on: those that its proof uses.
     Uses(&'u [LabelId]),
 }
 
@@ -35,7 +35,7 @@ struct Range {
 #[derive(Drop)]
 pub(crate) struct Grounds {
     alloc: Global,
-    /// How many assertions rest on themselves.
+    /// How many assertions depend on themselves.
     count: usize,
     ranges: Vec<Range>,
     words: Vec<Word>,
@@ -64,7 +64,7 @@ impl Grounds {
         }
     }
 
-    /// What a proof rests on that uses these assertions, with all words.
+    /// What a proof depends on that uses these assertions, with all words.
     pub(crate) fn union(&self, uses: &[LabelId]) -> Result<Vec<u32>, AllocError> {
         let alloc = self.alloc;
         let mut all = vec![in alloc; 0u32; self.count / WORD_BITS + 1]?;
@@ -74,7 +74,7 @@ impl Grounds {
         Ok(all)
     }
 
-    /// Enters what an assertion rests on.
+    /// Enters what an assertion depends on.
     pub(crate) fn enter(&mut self, label: LabelId, rests: Rests) -> Result<(), AllocError> {
         let start = self.words.len();
         match rests {
@@ -95,7 +95,7 @@ impl Grounds {
         Ok(())
     }
 
-    // Adds the words of what a proof rests on that uses these assertions.
+    // Adds the words of what a proof depends on that uses these assertions.
     fn add_union(&mut self, uses: &[LabelId]) -> Result<(), AllocError> {
         let all = self.union(uses)?;
         for (index, bits) in all.iter().enumerate() {
@@ -121,7 +121,7 @@ impl Grounds {
     }
 }
 
-// Puts the members of another set into the set.
+// Adds the members of another set to the set.
 fn join(set: &mut [u32], others: &[Word]) {
     for other in others {
         if let Some(bits) = set.get_mut(other.index as usize) {

@@ -49,7 +49,7 @@ struct Known {
 
 impl Library {
     /// Adds edges for goals to the graph of a theorem's proof: steps by assertions of the library
-    /// which may be used, over conclusions of the proof. Sought are steps that rest on what the
+    /// which may be used, over conclusions of the proof. Sought are steps that depend on what the
     /// theorem rests on, and whose distinct pairs are met; the checker is to judge both. No more is
     /// done than the budget allows.
     ///

@@ -23,7 +23,7 @@ use crate::store::Store;
 use mm_frame::{Book, Frame, Scheme, one_number};
 
 // The first of P10 to P12 that the step breaks, where the entries from the base on are as many as
-// the hypotheses, and begin with their type codes. It is told whether all of these are `$f`.
+// the hypotheses, and begin with their type codes. It is reported whether all of these are `$f`.
 fn rule_broken<S: Store>(
     store: &mut S,
     base: usize,

@@ -54,7 +54,7 @@ fn make_room(room: &mut Vec<Sym>, used: usize, more: usize) -> Result<(), AllocE
     room.resize(needed.max(doubled).max(FIRST_ROOM), Sym(0))
 }
 
-// Puts symbols behind those that are used.
+// Appends symbols to those that are used.
 fn put_behind(room: &mut [Sym], used: usize, symbols: &[Sym])
     requires { used + length symbols.now ≤ length room.old }
     ensures put { take (used + length symbols.now) room.new ≡ take used room.old ++ symbols.now }

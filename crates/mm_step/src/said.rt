@@ -16,7 +16,7 @@ use mm_frame::{ShortPiece, Sym};
 /// So many symbols are copied at once.
 const CHUNK: usize = 16;
 
-/// Puts a copy of a part of those that are used behind them.
+/// Appends a copy of a part of those that are used to them.
 pub(crate) fn put_part_behind(room: &mut [Sym], used: usize, start: usize, end: usize)
     requires order { start ≤ end }
     requires within { end ≤ used }
@@ -31,7 +31,7 @@ pub(crate) fn put_part_behind(room: &mut [Sym], used: usize, start: usize, end: 
     into.copy_from_slice(&prefix[start..end]);
 }
 
-// Puts a symbol behind those that are used, and answers how many are used then; none where the
+// Appends a symbol to those that are used, and answers how many are used then; none where the
 // room ends there.
 #[inline(always)]
 fn put_symbol(room: &mut [Sym], used: usize, symbol: Sym) -> Option<usize>
@@ -49,7 +49,7 @@ fn put_symbol(room: &mut [Sym], used: usize, symbol: Sym) -> Option<usize>
     Some(used + 1)
 }
 
-// Puts a copy of so many symbols as are copied at once, from an index on, behind those that are
+// Appends a copy of so many symbols as are copied at once, from an index on, to those that are
 // used. All are read before one is written, so that the two may overlap.
 #[inline(always)]
 fn put_chunk(room: &mut [Sym], used: usize, start: usize)
@@ -86,7 +86,7 @@ fn put_any_part(room: &mut [Sym], used: usize, start: usize, end: usize) -> Opti
     Some(used + (end - start))
 }
 
-// Puts a copy of a part of those that are used behind them, and answers how many are used then;
+// Appends a copy of a part of those that are used to them, and answers how many are used then;
 // none where the room is too short for it. Most parts are short: of such a one as many symbols are
 // copied as are copied at once, for which no length is asked. What is copied behind its end is
 // behind those that are used.

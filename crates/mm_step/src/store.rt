@@ -50,7 +50,7 @@ pub trait Store {
         ensures refused { OnErr result (stack self.new ≡ stack self.old) }
         ensures kept { kept self.new ≡ kept self.old };
 
-    /// Puts a copy of the last expression on the stack at the end of the kept ones.
+    /// Appends a copy of the last expression on the stack to the kept ones.
     fn keep(&mut self) -> Result<(), AllocError>
         requires { 0 < length (stack self.old) }
         ensures kept { OnOk result ((e : List ℕ)
@@ -98,7 +98,7 @@ pub trait Store {
         ensures kept { kept self.new ≡ kept self.old };
 }
 
-/// Puts an item at an index of the list, and drops what stood there and behind it. Only an item
+/// Appends an item at an index of the list, and drops what stood there and to it. Only an item
 /// that stands behind all others needs a growth, so that nothing is dropped where that is refused.
 #[inline(always)]
 pub fn put_last<T: Drop>(list: &mut Vec<T>, index: usize, item: T) -> Result<(), AllocError>

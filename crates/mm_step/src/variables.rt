@@ -39,7 +39,7 @@ fn make_room(symbols: &mut Vec<Sym>) -> Result<(), AllocError>
     Ok(())
 }
 
-// Puts the symbol among the others where it is a variable.
+// Adds the symbol to the others where it is a variable.
 fn add_variable(variables: &mut Vec<Sym>, book: &Book, symbol: Sym) -> Result<(), AllocError>
     ensures { OnOk result (AddsVariable book.now.statements symbol.0
         (numbers_in variables.old.items) (numbers_in variables.new.items)) }

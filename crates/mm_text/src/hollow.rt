@@ -79,7 +79,7 @@ fn mark_slowly(piece: &[u8], start: usize) -> usize
 }
 
 // The position of the first `$` from a position on that a `(` follows, or that is the last byte; or
-// the end. What is kept doesn't rest on it: all up to there is kept as it is.
+// the end. What is kept doesn't depend on it: all up to there is kept as it is.
 fn mark_position(piece: &[u8], start: usize) -> usize
     requires { start ≤ length piece.now }
     ensures from { start ≤ result }

@@ -64,7 +64,7 @@ pub fn left_out(alloc: Global, seed: Seed, files: &[File]) -> Result<Vec<usize>,
         → IfOk result (λ numbers. numbers.items ≡ left_out (map plain_file files.now)) }
     ensures broken { (rule : LoadRule) → BreaksLoad (map plain_file files.now) rule
         → IfOk result (λ numbers. numbers.items ≡ []) }
-    // Of a file alone, and of none, nothing is kept: so no lack of memory is told.
+    // Of a file alone, and of none, nothing is kept: so no lack of memory is reported.
     ensures lone { length files.now ≤ 1 → IsOk result }
 {
     if files.len() <= 1 {

@@ -144,7 +144,7 @@ impl<'a> Statements<'a> {
             Ok(more) => Ok(more),
             Err(TextFault::Fault { .. }) => Ok(false),
             Err(TextFault::Memory) => Err(AllocError),
-            // A rule of the files as a whole is told by `new`.
+            // A rule of the files as a whole is given by `new`.
             Err(TextFault::Load(_)) => unreachable!(),
         }
     }

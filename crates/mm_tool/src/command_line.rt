@@ -463,7 +463,7 @@ fn check_commands<'a>(alloc: Global) -> Result<Command<'a>, AllocError>
     with_command(command, why_command(alloc))
 }
 
-/// That with the commands that ask what rests on what, for `clap`.
+/// That with the commands that ask what depends on what, for `clap`.
 fn rests_command<'a>(alloc: Global) -> Result<Command<'a>, AllocError>
     ensures shape { IfOk result (λ command. app_of command ≡ rests_line) }
     ensures local { IfOk result (λ command. (out-Command command).has_globals ≡ false) }

@@ -14,7 +14,7 @@ use mm_rules::{AskFault, AskRule};
 use mm_verdict::ask_reply;
 use std::alloc::{AllocError, Global};
 
-/// Puts the line on a near label at the end.
+/// Appends the line on a near label.
 fn push_near(notes: &mut Vec<u8>, near: &[u8]) -> Result<(), AllocError>
     ensures { OnOk result (notes.new.items ≡ notes.old.items ++ near_line near.now) }
 {

@@ -12,7 +12,7 @@ use std::alloc::{AllocError, Global};
 /// How many files have a line of their own.
 const NAMED: usize = 3;
 
-/// Puts the line on a file that wasn't included at the end.
+/// Appends the line on a file that wasn't included.
 fn push_note(notes: &mut Vec<u8>, name: &[u8]) -> Result<(), AllocError>
     ensures { OnOk result (notes.new.items ≡ notes.old.items ++ note_of name.now) }
 {
@@ -21,7 +21,7 @@ fn push_note(notes: &mut Vec<u8>, name: &[u8]) -> Result<(), AllocError>
     notes.extend_from_slice(b" was not included, so nothing in it was checked\n")
 }
 
-/// Puts the line on so many more files at the end.
+/// Appends the line on so many more files.
 fn push_more(notes: &mut Vec<u8>, count: usize) -> Result<(), AllocError>
     ensures { OnOk result (notes.new.items ≡ notes.old.items ++ more_note count) }
 {
@@ -31,7 +31,7 @@ fn push_more(notes: &mut Vec<u8>, count: usize) -> Result<(), AllocError>
     notes.extend_from_slice(b" more files were not included\n")
 }
 
-/// Puts the line on how many more files there are at the end, where there are more.
+/// Appends the line on how many more files there are, where there are more.
 fn push_count(notes: &mut Vec<u8>, count: usize) -> Result<(), AllocError>
     ensures { OnOk result (notes.new.items ≡ notes.old.items ++ count_note count) }
 {

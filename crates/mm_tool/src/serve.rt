@@ -69,7 +69,7 @@ fn reply<'a, O: Write>(
     }
 }
 
-/// Writes the reply to a command, beside which these notes are told.
+/// Writes the reply to a command, beside which these notes are reported.
 fn noted_reply<'a, O: Write>(
     out: &mut Counted<O>,
     reply: &Reply,
@@ -335,7 +335,7 @@ pub(crate) fn tell<E: Write>(stop: &Stop<'_>, err: &mut Counted<E>) -> Status
 /// - 4: a file, a device, a limit or memory stood in the way.
 ///
 /// It stops writing to either device at that one's first failed call. A failing standard error
-/// changes no status. Progress is told on a device of its own, where it is shown.
+/// changes no status. Progress is reported on a device of its own, where it is shown.
 pub(crate) fn serve<F: Folder, O: Write, E: Write, P: Write>(
     resources: Resources,
     folder: &F,

@@ -8,7 +8,7 @@ use crate::folder::ArgumentFault;
 use std::alloc::AllocError;
 use thiserror::Error;
 
-/// Why the program ends without an answer, which is told on standard error: the message, after
+/// Why the program ends without an answer, which is reported on standard error: the message, after
 /// `mm: ` where it isn't `Usage`.
 #[derive(Debug, Drop, Error)]
 pub(crate) enum Stop<'a> {

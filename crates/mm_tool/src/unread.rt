@@ -30,7 +30,7 @@ pub(crate) fn asked_label<'a>(command: &Command<'a>) -> Option<&'a [u8]>
 }
 
 /// The end of a command that was asked for with this label: where a file can't be read, the label
-/// is told too.
+/// is reported too.
 pub(crate) fn labelled<'a>(stop: Stop<'a>, label: Option<&'a [u8]>) -> Stop<'a>
     ensures { AddsLabel label.entry stop.entry result }
 {

@@ -103,7 +103,7 @@ pub fn next<'a>(
             Err(Stop::Refused(refusal))
         }
         Err(TextFault::Memory) => Err(Stop::Memory),
-        // A rule of the files as a whole is told by `load`.
+        // A rule of the files as a whole is given by `load`.
         Err(TextFault::Load(_)) => unreachable!(),
     }
 }
@@ -291,7 +291,7 @@ fn judge_all<'a>(
 ///
 /// `Load` where the files can't be taken as a whole, else `Refused` with the first statement at
 /// fault and its rule; `Memory` where a growth was refused, and nothing is said of the files then.
-/// The known prefix of an incomplete proof is judged too (the Metamath book, section 4.4.4).
+/// The checked prefix of an incomplete proof is judged too (the Metamath book, section 4.4.4).
 pub fn check_with<'a>(
     alloc: Global,
     seed: Seed,
@@ -340,7 +340,7 @@ pub fn check_with<'a>(
 ///
 /// `Load` where the files can't be taken as a whole, else `Refused` with the first statement at
 /// fault and its rule; `Memory` where a growth was refused, and nothing is said of the files then.
-/// The known prefix of an incomplete proof is judged too (the Metamath book, section 4.4.4).
+/// The checked prefix of an incomplete proof is judged too (the Metamath book, section 4.4.4).
 pub fn check<'a>(
     alloc: Global,
     seed: Seed,
