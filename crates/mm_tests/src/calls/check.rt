@@ -5,7 +5,7 @@ use crate::tests::{CHECK, reply_to};
 use mm_axioms::{ChainFault, Report, axioms, chain, essential_axioms};
 use mm_base::{File, Seed};
 use mm_check::{Command, Question, RunFault, run};
-use mm_frame::MeaningRule;
+use mm_frame::{LabelId, MeaningRule};
 use mm_render::proof_listing;
 use mm_rules::{AskFault, AskRule, CheckFault, Refusal, Rule, Status};
 use mm_step::{Profile, ProofRule};
@@ -211,30 +211,29 @@ fn refuses_questions(rt: HostRuntime) -> Result<(), Fail> {
     Ok(())
 }
 
-/// Whether the shortest chain from a theorem to an assertion has these labels.
+/// Whether the shortest chain from a theorem to an assertion has these labels, by number.
 fn has_chain(
     alloc: Global,
     checked: &Checked,
     (label, other): (&[u8], &[u8]),
-    next: &[u8],
+    numbers: (u32, u32, u32),
 ) -> bool {
     let Ok(found) = chain(alloc, checked, label, other) else {
         return false;
     };
     match found.as_slice() {
-        [a, b, c] => {
-            checked.name(*a) == label && checked.name(*b) == next && checked.name(*c) == other
-        }
+        [a, b, c] => (a.0, b.0, c.0) == numbers,
         _ => false,
     }
 }
 
+// From t by q to w, and from n by t to r.
 #[test]
 fn finds_the_first_of_the_shortest_chains(rt: HostRuntime) -> Result<(), Fail> {
     let files = file(CODES);
     let checked = accepted(rt.alloc(), &files)?;
-    let of_t = has_chain(rt.alloc(), &checked, (b"t", b"w"), b"q");
-    let of_n = has_chain(rt.alloc(), &checked, (b"n", b"r"), b"t");
+    let of_t = has_chain(rt.alloc(), &checked, (b"t", b"w"), (9, 3, 0));
+    let of_n = has_chain(rt.alloc(), &checked, (b"n", b"r"), (12, 9, 8));
     drop(checked);
     assert!(rt; of_t && of_n);
     Ok(())
@@ -260,21 +259,27 @@ fn finds_no_chain(rt: HostRuntime) -> Result<(), Fail> {
     Ok(())
 }
 
-/// Whether a theorem rests on these axioms of its type code, and on this unproved theorem.
-fn has_essential(
-    alloc: Global,
-    checked: &Checked,
-    label: &[u8],
-    (first, second, unproved): (&[u8], &[u8], &[u8]),
-) -> bool {
-    let Ok(report) = essential_axioms(alloc, checked, label) else {
-        return false;
-    };
-    match (report.axioms.as_slice(), report.unproved.as_slice()) {
-        ([a, b], [c]) => {
-            checked.name(*a) == first && checked.name(*b) == second && checked.name(*c) == unproved
-        }
+/// Whether these are the numbers of m and of j.
+fn are_m_and_j(numbers: &[LabelId]) -> bool {
+    match numbers {
+        [m, j] => (m.0, j.0) == (2, 7),
         _ => false,
+    }
+}
+
+/// Whether this is the number of u alone.
+fn is_u(numbers: &[LabelId]) -> bool {
+    match numbers {
+        [u] => u.0 == 10,
+        _ => false,
+    }
+}
+
+/// Whether a theorem depends on the axioms m and j of its type code, and on u, which is unproved.
+fn has_essential(alloc: Global, checked: &Checked, label: &[u8]) -> bool {
+    match essential_axioms(alloc, checked, label) {
+        Ok(report) => are_m_and_j(&report.axioms) && is_u(&report.unproved),
+        Err(_) => false,
     }
 }
 
@@ -283,7 +288,7 @@ fn has_essential(
 fn reports_axioms_of_the_type_code(rt: HostRuntime) -> Result<(), Fail> {
     let files = file(CODES);
     let checked = accepted(rt.alloc(), &files)?;
-    let is_told = has_essential(rt.alloc(), &checked, b"n", (b"m", b"j", b"u"));
+    let is_told = has_essential(rt.alloc(), &checked, b"n");
     drop(checked);
     assert!(rt; is_told);
     Ok(())
