@@ -14,7 +14,7 @@ use Rattle.mm_listing.specs.declared.lines.Line.{Line}
 use Rattle.mm_step.specs.declared.profile.Profile.{Profile}
 use Rattle.mm_step.specs.declared.profile.Profile.TheVariants.{Lenient}
 use Rattle.mm_listing.specs.Halted.{HaltsProof, StopsWith}
-use Rattle.mm_proof.specs.KnownPrefix.{Pass}
+use Rattle.mm_proof.specs.CheckedPrefix.{Pass}
 use Rattle.mm_listing.specs.Listing.{AreListed, ListedStep, TellsStep, AreLinesOf}
 use Rattle.mm_step.specs.Moves.{Move, steps_in}
 use Rattle.mm_proof.specs.Parsed.{OfProof, SaySteps}

@@ -1,4 +1,5 @@
 pub mod Reply
+pub mod Chain
 pub mod Asked
 pub mod Alike
 pub mod Alone

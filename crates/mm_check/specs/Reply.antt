@@ -1,14 +1,17 @@
 -- The reply to a command: its text and its status, which are this project's own.
-use Rattle.std.specs.Prelude.{◌≡◌, ℕ, ◌<◌, List, [], ◌∷◌, ◌++◌, map, length, Option}
+use Rattle.std.specs.Prelude.{◌≡◌, ℕ, ◌<◌, ◌≤◌, List, [], ◌∷◌, ◌++◌, map, length, Option}
 use Rattle.std.specs.Prelude.{Bool, true, false, None}
 use Rattle.std.specs.Prelude.{◌⊎◌, codes}
+use Rattle.std.specs.List.{AllByRecursion}
 use Rattle.std.specs.Io.KnownBytes.{Appends}
+use Rattle.mm_base.specs.MostBytes.{most_bytes}
 use Rattle.mm_base.specs.Statement.{PlainStatement}
+use Rattle.mm_code.specs.Layout.{texts}
 use Rattle.mm_text.specs.Files.{PlainFile}
 use Rattle.mm_text.specs.Device.{AppendsBeginning}
 use Rattle.mm_frame.specs.Sentence.{Sentence, sentence_of}
 use Rattle.mm_step.specs.declared.fault.ProofRule.{ProofRule}
-use Rattle.mm_proof.specs.KnownPrefix.{known_prefix}
+use Rattle.mm_proof.specs.CheckedPrefix.{checked_prefix}
 use Rattle.mm_proof.specs.Tokens.{is_incomplete}
 use Rattle.mm_proof.specs.UnderProfile.{IsProvedUnder, IsPrefixAllowedUnder}
 use Rattle.mm_step.specs.declared.profile.Profile.{Profile}
@@ -23,6 +26,9 @@ use Rattle.mm_rules.specs.declared.ask.AskFault.{AskFault}
 use Rattle.mm_rules.specs.declared.ask.AskFault.TheVariants as ask
 use Rattle.mm_check.specs.declared.command.Command.{Command}
 use Rattle.mm_check.specs.declared.command.Command.TheVariants.{Whole, About, Lone, File, Shorter}
+use Rattle.mm_check.specs.declared.command.Command.TheVariants.{Find}
+use Rattle.mm_check.specs.Chain.{IsChainReply}
+use Rattle.mm_find.specs.Reply.{IsFindReply, query_for}
 use Rattle.mm_check.specs.declared.question.Question.{Question}
 use Rattle.mm_check.specs.declared.question.Question.TheVariants as question
 use Rattle.mm_check.specs.declared.question.LoneQuestion.{LoneQuestion}
@@ -32,6 +38,7 @@ use Rattle.mm_check.specs.declared.question.WholeQuestion.TheVariants.{Check, Fa
 use Rattle.mm_check.specs.declared.question.WholeQuestion.TheVariants.{Axioms as AllAxioms}
 use Rattle.mm_check.specs.declared.question.WholeQuestion.TheVariants.{Shorter as AllShorter}
 use Rattle.mm_axioms.specs.Users.{IsAssertionFault, AreUsers}
+use Rattle.mm_axioms.specs.Essential.{IsEssentialReport}
 use Rattle.mm_rules.specs.Rests.{IsAskFault, IsReport}
 use Rattle.mm_verdict.specs.Alone.{IsRefusedBefore, IsNoTheorem, IsTheoremAt}
 use Rattle.mm_check.specs.Alone.{AreStepsBefore}
@@ -120,11 +127,19 @@ abbrev pub report_status : List ℕ → ℕ
 report_status [] = 0
 report_status (id ∷ unproved) = 3
 
+-- what the theorem with the label rests on; or of the axioms those alone that have its type code
+abbrev pub IsReportFor : (essential : Bool) → List PlainStatement → (label : List ℕ)
+    → (axioms unproved : List ℕ) → Type 0
+IsReportFor true statements label axioms unproved =
+    IsEssentialReport statements label axioms unproved
+IsReportFor false statements label axioms unproved = IsReport statements label axioms unproved
+
 -- the reply to the question what the theorem with a label rests on
-abbrev pub IsAxiomsReply : List ℕ → List PlainStatement → List ℕ → ℕ → Type 0
-IsAxiomsReply label statements text status =
+abbrev pub IsAxiomsReply : (essential : Bool) → List ℕ → List PlainStatement → List ℕ → ℕ → Type 0
+IsAxiomsReply essential label statements text status =
     ((fault : AskFault) × IsAskFault statements label fault × IsAskReply fault label text status)
-    ⊎ ((axioms : List ℕ) × (unproved : List ℕ) × IsReport statements label axioms unproved
+    ⊎ ((axioms : List ℕ) × (unproved : List ℕ)
+    × IsReportFor essential statements label axioms unproved
     × (text ≡ report_text (labels_of statements) axioms unproved)
     × (status ≡ report_status unproved))
 
@@ -180,8 +195,10 @@ IsSameReply profile label proof statements text status =
 -- the reply to a question about the statement with a label, in the profile that the files obey
 abbrev pub IsAnswerTo : Profile → Question → List PlainFile → (label : List ℕ)
     → List PlainStatement → List ℕ → ℕ → Type 0
-IsAnswerTo profile question.Axioms files label statements text status =
-    IsAxiomsReply label statements text status
+IsAnswerTo profile (question.Axioms essential) files label statements text status =
+    IsAxiomsReply essential label statements text status
+IsAnswerTo profile (question.Chain other) files label statements text status =
+    IsChainReply label other.now statements text status
 IsAnswerTo profile question.Show files label statements text status =
     IsTextReply (ShowsProof statements label) (IsAskFault statements label) label text status
 IsAnswerTo profile (question.Uses essential) files label statements text status =
@@ -289,12 +306,12 @@ pub record IsKnownFault (files : List PlainFile) (before : List PlainStatement) 
 
 -- The proof is incomplete, and its known prefix breaks no rule: the lines of the prefix's steps,
 -- and what it leaves on the stack.
-pub record IsKnownPrefix (before : List Sentence) (s : Sentence) (tokens : List (List ℕ))
+pub record IsCheckedPrefix (before : List Sentence) (s : Sentence) (tokens : List (List ℕ))
     (text : List ℕ) (status : ℕ) : Type 0 where
   pub incomplete : is_incomplete tokens ≡ true
   pub allowed : IsPrefixAllowedUnder Lenient before s tokens
   pub lines : List ℕ
-  pub shown : IsListingText before s (known_prefix tokens) lines
+  pub shown : IsListingText before s (checked_prefix tokens) lines
   pub details : List Detail
   pub left : AreLeftOver Lenient before s tokens details
   pub said : IsExplained lines details text
@@ -307,7 +324,7 @@ IsKnownReply files before s text status =
     ((is_incomplete (proof_of s) ≡ false)
     × IsProvedUnder Lenient (sentences before) (sentence_of s) (proof_of s)
     × IsListingText (sentences before) (sentence_of s) (proof_of s) text × (status ≡ 0))
-    ⊎ (IsKnownPrefix (sentences before) (sentence_of s) (proof_of s) text status
+    ⊎ (IsCheckedPrefix (sentences before) (sentence_of s) (proof_of s) text status
     ⊎ IsKnownFault files before s text status)
 
 -- the answer about the theorem after those before it
@@ -327,10 +344,13 @@ IsLoneReply asked files label text status =
 
 -- ---- commands
 
--- a file that the command asks for by its number is one of those that are handed in
+-- a file that the command asks for by its number is one of those that are handed in, and a pattern
+-- that it seeks has no more bytes than files may have
 abbrev pub AsksHanded : List PlainFile → Command → Type 0
 AsksHanded files (File form number) = number < length files
 AsksHanded files (Shorter number duplicates) = number < length files
+AsksHanded files (Find patterns whole hypotheses) =
+    AllByRecursion (λ p. length p ≤ most_bytes) (texts patterns.now)
 AsksHanded files command = Unit {0}
 
 -- the reply to a question about the whole database, in the profile
@@ -346,7 +366,7 @@ IsWholeReply AllShorter profile files text status =
 
 -- This is the text and the status of the reply to a command. Questions about a theorem, and those for
 -- a file, are answered where the lenient profile accepts the files; those about a theorem alone where
--- the statements up to it break no rule of meaning.
+-- the statements up to it break no rule of meaning; and assertions are found where no statement does.
 abbrev pub IsReplyTo : List PlainFile → Command → List ℕ → ℕ → Type 0
 IsReplyTo files (Whole profile asked) text status = IsWholeReply asked profile files text status
 IsReplyTo files (About label asked) text status =
@@ -356,6 +376,8 @@ IsReplyTo files (File wanted number) text status =
     IsQuestionReply Lenient files (IsAllSavedReply wanted files number) text status
 IsReplyTo files (Shorter number duplicates) text status =
     IsQuestionReply Lenient files (IsAllShortenedReply Lenient duplicates files number) text status
+IsReplyTo files (Find patterns whole hypotheses) text status =
+    IsFindReply (query_for (texts patterns.now) whole hypotheses) files text status
 
 -- The reply's text was put after what the writer held, where that is known.
 abbrev pub Writes : List PlainFile → Command → ℕ → Option (List ℕ) → Option (List ℕ) → Type 0

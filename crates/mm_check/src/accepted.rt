@@ -16,12 +16,10 @@ ghost use Rattle.mm_check.specs.Reply.{IsQuestionReply, ListsShorter};
 use crate::question::{Question, answer_to, text_reply};
 use mm_axioms::all_axioms_text;
 use mm_base::{File, Seed};
-use mm_minimize::{Wanted, minimized_file, minimized_list};
+use mm_minimize::{SearchWatch, Wanted, minimized_file, minimized_list};
 use mm_rules::{AskFault, CheckFault, name_of};
 use mm_step::Profile;
-use mm_verdict::{
-    Checked, Reply, Watch, accepted_reply, check_with, conclusion_status, verdict_reply,
-};
+use mm_verdict::{Checked, Reply, accepted_reply, check_with, conclusion_status, verdict_reply};
 use std::alloc::{AllocError, Global};
 
 /// What is asked of a database that is checked first.
@@ -59,7 +57,7 @@ fn list_reply(checked: &Checked, list: Result<Vec<u8>, AllocError>) -> Result<Re
 }
 
 /// A line for each proof that becomes shorter, and the sums.
-fn shorter_text<W: Watch>(
+fn shorter_text<W: SearchWatch>(
     alloc: Global,
     checked: &Checked,
     watch: &mut W,
@@ -78,7 +76,7 @@ fn shorter_text<W: Watch>(
 }
 
 /// The answer of a database in which nothing is at fault.
-fn answer_over<W: Watch>(
+fn answer_over<W: SearchWatch>(
     alloc: Global,
     files: &[File],
     checked: &Checked,
@@ -98,7 +96,7 @@ fn answer_over<W: Watch>(
         Asked::Verdict => accepted_reply(alloc, files, checked),
         Asked::Axioms => list_reply(checked, all_axioms_text(alloc, checked)),
         Asked::Shorter => list_reply(checked, shorter_text(alloc, checked, watch)),
-        Asked::About { label, question } => answer_to(alloc, checked, &question, label),
+        Asked::About { label, question } => answer_to(alloc, checked, &question, label, watch),
         Asked::File(wanted) => {
             let name = name_of(files, wanted.number);
             text_reply(alloc, name, minimized_file(alloc, checked, wanted, watch))
@@ -107,7 +105,7 @@ fn answer_over<W: Watch>(
 }
 
 /// The reply to what is asked, where this is the answer of `check_with`.
-fn answer_or_verdict<W: Watch>(
+fn answer_or_verdict<W: SearchWatch>(
     alloc: Global,
     files: &[File],
     answer: &Result<Checked, CheckFault>,
@@ -131,7 +129,7 @@ fn answer_or_verdict<W: Watch>(
 }
 
 /// The reply to what is asked of the files, which are checked first.
-pub(crate) fn checked_reply<W: Watch>(
+pub(crate) fn checked_reply<W: SearchWatch>(
     alloc: Global,
     seed: Seed,
     profile: Profile,

@@ -5,11 +5,11 @@ ghost use Rattle.std.specs.List.{sum_by};
 ghost use Rattle.mm_base.specs.MostBytes.{most_bytes};
 ghost use Rattle.mm_text.specs.Files.{plain_file};
 ghost use Rattle.mm_base.specs.Statement.{plain_statement};
-ghost use Rattle.mm_code.specs.Layout.{texts};
 ghost use Rattle.mm_frame.specs.Sentence.{Sentence};
 ghost use Rattle.mm_step.specs.declared.profile.Profile.TheVariants.{Lenient};
-ghost use Rattle.mm_proof.specs.KnownPrefix.{known_prefix};
+ghost use Rattle.mm_proof.specs.CheckedPrefix.{checked_prefix};
 ghost use Rattle.mm_proof.specs.Parsed.{OfProof, SaySteps};
+ghost use Rattle.mm_step.specs.Plain.{token_texts};
 ghost use Rattle.mm_step.specs.Steps.{AreSteps, IsProofNumber};
 ghost use Rattle.mm_proof.specs.Tokens.{is_incomplete};
 ghost use Rattle.mm_proof.specs.UnderProfile.{IsPrefixAllowedUnder};
@@ -17,12 +17,12 @@ ghost use Rattle.mm_check.specs.Alone.{AreStepsBefore};
 ghost use Rattle.mm_facts.specs.Explained.{judged_tokens};
 ghost use Rattle.mm_facts.specs.Explained.{IsTokensFault};
 ghost use Rattle.mm_explain.specs.Mirror.Reached.{HasReached};
-ghost use Rattle.mm_check.specs.Reply.{IsKnownFault, IsKnownPrefix, IsKnownReply};
+ghost use Rattle.mm_check.specs.Reply.{IsKnownFault, IsCheckedPrefix, IsKnownReply};
 ghost use Rattle.mm_render.specs.Shown.{IsListingText};
 ghost use Rattle.mm_rules.specs.Status.{number_of};
 ghost use Rattle.mm_rules.specs.Verdict.{proof_of};
 
-use mm_base::File;
+use mm_base::{File, Token};
 use mm_explain::{Reached, judged_steps, push_head};
 use mm_facts::{cause_of, fault_place, push_cause, push_left_over};
 use mm_frame::{Book, LabelId};
@@ -31,7 +31,7 @@ use mm_proof::Steps;
 use mm_render::text_of;
 use mm_rules::{LineCount, Rule, Status, refusal};
 use mm_step::{Profile, ProofFault, ProofRule};
-use mm_verdict::{Reply, proof_of, push_refusal, refusal_status};
+use mm_verdict::{Reply, push_refusal, refusal_status};
 use std::alloc::{AllocError, Global};
 
 /// The reply where the proof, or what is known of it, is at fault: the lines of the steps before
@@ -40,19 +40,19 @@ fn fault_reply(
     alloc: Global,
     files: &[File],
     reached: &Reached,
-    tokens: &[&[u8]],
+    tokens: &[Token],
     lines: Vec<u8>,
     fault: (ProofRule, usize),
 ) -> Result<Reply, AllocError>
     requires reached { (label : List ℕ) × HasReached (map plain_file files.now) label reached.now }
-    requires tokens { texts tokens.now ≡ proof_of (plain_statement reached.now.statement) }
-    requires room { sum_by length (texts tokens.now) ≤ most_bytes }
+    requires tokens { token_texts tokens.now ≡ proof_of (plain_statement reached.now.statement) }
+    requires room { sum_by length (token_texts tokens.now) ≤ most_bytes }
     requires fault { OfProof reached.now.book.statements reached.now.id.0 (λ index s.
-        IsTokensFault Lenient (take index reached.now.book.statements) s (texts tokens.now) fault.0
-        fault.1) }
+        IsTokensFault Lenient (take index reached.now.book.statements) s (token_texts tokens.now)
+        fault.0 fault.1) }
     requires shown { OfProof reached.now.book.statements reached.now.id.0 (λ index s.
         AreStepsBefore (take index reached.now.book.statements) s
-        (judged_tokens (texts tokens.now)) fault.1 lines.items) }
+        (judged_tokens (token_texts tokens.now)) fault.1 lines.items) }
     ensures { IfOk result (λ reply. (label : List ℕ)
         (r : HasReached (map plain_file files.now) label reached.now)
         → IsKnownFault (map plain_file files.now) r.before (plain_statement reached.now.statement)
@@ -72,7 +72,7 @@ fn fault_reply(
     let cause = cause_of(alloc, profile, book, reached.id, tokens, fault)?;
     let mut text = lines;
     push_refusal(&mut text, files, &refusal)?;
-    let at = fault_place(&reached.statement, tokens, &cause);
+    let at = fault_place(&reached.statement, &cause);
     push_head(&mut text, files, at, &refusal)?;
     push_cause(&mut text, alloc, profile, book, reached.id, &cause, fault.0)?;
     Ok(Reply {
@@ -87,19 +87,19 @@ fn prefix_reply(
     alloc: Global,
     book: &Book,
     id: LabelId,
-    tokens: &[&[u8]],
+    tokens: &[Token],
     lines: Vec<u8>,
 ) -> Result<Reply, AllocError>
     requires proof { (index : ℕ) × (s : Sentence) × IsProofNumber book.now.statements id.0 index s }
-    requires room { sum_by length (texts tokens.now) ≤ most_bytes }
-    requires incomplete { is_incomplete (texts tokens.now) ≡ true }
+    requires room { sum_by length (token_texts tokens.now) ≤ most_bytes }
+    requires incomplete { is_incomplete (token_texts tokens.now) ≡ true }
     requires allowed { OfProof book.now.statements id.0 (λ index s.
-        IsPrefixAllowedUnder Lenient (take index book.now.statements) s (texts tokens.now)) }
+        IsPrefixAllowedUnder Lenient (take index book.now.statements) s (token_texts tokens.now)) }
     requires shown { OfProof book.now.statements id.0 (λ index s.
-        IsListingText (take index book.now.statements) s (known_prefix (texts tokens.now))
+        IsListingText (take index book.now.statements) s (checked_prefix (token_texts tokens.now))
         lines.items) }
     ensures { IfOk result (λ reply. OfProof book.now.statements id.0 (λ index s.
-        IsKnownPrefix (take index book.now.statements) s (texts tokens.now) reply.text.items
+        IsCheckedPrefix (take index book.now.statements) s (token_texts tokens.now) reply.text.items
         (number_of reply.status))) }
 {
     let mut text = lines;
@@ -115,17 +115,17 @@ fn steps_reply(
     alloc: Global,
     files: &[File],
     reached: &Reached,
-    tokens: &[&[u8]],
+    tokens: &[Token],
     steps: &Steps,
 ) -> Result<Reply, AllocError>
     requires reached { (label : List ℕ) × HasReached (map plain_file files.now) label reached.now }
-    requires tokens { texts tokens.now ≡ proof_of (plain_statement reached.now.statement) }
-    requires room { sum_by length (texts tokens.now) ≤ most_bytes }
+    requires tokens { token_texts tokens.now ≡ proof_of (plain_statement reached.now.statement) }
+    requires room { sum_by length (token_texts tokens.now) ≤ most_bytes }
     requires said { OfProof reached.now.book.statements reached.now.id.0 (λ index s.
-        SaySteps reached.now.book.statements index s (judged_tokens (texts tokens.now))
+        SaySteps reached.now.book.statements index s (judged_tokens (token_texts tokens.now))
         steps.now.moves) }
     requires usable { AreSteps reached.now.book.statements reached.now.id.0 steps.now.moves }
-    requires prefix { steps.now.prefix ≡ is_incomplete (texts tokens.now) }
+    requires prefix { steps.now.prefix ≡ is_incomplete (token_texts tokens.now) }
     requires profile { steps.now.profile ≡ Lenient }
     ensures { IfOk result (λ reply. (label : List ℕ)
         (r : HasReached (map plain_file files.now) label reached.now)
@@ -158,18 +158,11 @@ pub fn known_reply(alloc: Global, files: &[File], reached: &Reached) -> Result<R
         → IsKnownReply (map plain_file files.now) r.before (plain_statement reached.now.statement)
         reply.text.items (number_of reply.status)) }
 {
-    let tokens = proof_of(alloc, &reached.statement)?;
-    match judged_steps(alloc, &reached.book, reached.id, &tokens) {
-        Ok(steps) => steps_reply(alloc, files, reached, &tokens, &steps),
+    let tokens = &reached.statement.proof;
+    match judged_steps(alloc, &reached.book, reached.id, tokens) {
+        Ok(steps) => steps_reply(alloc, files, reached, tokens, &steps),
         Err(ProofFault::Rule { rule, step }) => {
-            fault_reply(
-                alloc,
-                files,
-                reached,
-                &tokens,
-                Vec::new(alloc),
-                (rule, step),
-            )
+            fault_reply(alloc, files, reached, tokens, Vec::new(alloc), (rule, step))
         }
         Err(ProofFault::Memory) => Err(AllocError),
     }

@@ -13,11 +13,12 @@ use crate::alone::lone_reply;
 use crate::question::{LoneQuestion, Question, WholeQuestion};
 use crate::whole::{all_saved_reply, whole_reply};
 use mm_base::{File, Seed};
-use mm_minimize::Wanted;
+use mm_find::{Sought, find_reply};
+use mm_minimize::{SearchWatch, Wanted};
 use mm_rules::Status;
 use mm_step::Profile;
 use mm_text::Counted;
-use mm_verdict::{Form, Reply, Unwatched, Watch};
+use mm_verdict::{Form, Reply, Unwatched};
 use std::alloc::{AllocError, Global};
 use std::io::Write;
 use thiserror::Error;
@@ -54,6 +55,15 @@ pub enum Command<'a> {
         file: usize,
         duplicates: bool,
     },
+    /// For a line for each assertion with each of these patterns, whatever the proofs; if `whole`,
+    /// as whole expressions; if `hypotheses`, also in essential hypotheses. A pattern has at most
+    /// 1,073,741,824 bytes, and its tokens stand between white space. Where there is none, for each
+    /// assertion.
+    Find {
+        patterns: &'a [&'a [u8]],
+        whole: bool,
+        hypotheses: bool,
+    },
 }
 
 /// Why a reply wasn't written, or not to its end.
@@ -77,8 +87,8 @@ impl From<AllocError> for RunFault {
 
 /// The reply to a command over the files, the first of which is the top file, before it is written.
 /// Where shorter proofs are looked for in all of them, the watch is told after each theorem how far
-/// this has come.
-pub fn reply_to<W: Watch>(
+/// this has come. Where they are looked for at all, it is told what that came to.
+pub fn reply_to<W: SearchWatch>(
     alloc: Global,
     seed: Seed,
     command: &Command,
@@ -108,6 +118,18 @@ pub fn reply_to<W: Watch>(
                 duplicates: *duplicates,
             });
             checked_reply(alloc, seed, Profile::Lenient, files, asked, watch)
+        }
+        Command::Find {
+            patterns,
+            whole,
+            hypotheses,
+        } => {
+            let sought = Sought {
+                patterns: *patterns,
+                whole: *whole,
+                hypotheses: *hypotheses,
+            };
+            find_reply(alloc, seed, files, &sought)
         }
     }
 }

@@ -9,6 +9,7 @@
 mod accepted;
 mod alike;
 mod alone;
+mod chain;
 mod checked_prefix;
 mod command;
 mod question;

@@ -10,17 +10,19 @@ ghost use Rattle.mm_rules.specs.Answer.{labels_at, KeepsLabels};
 ghost use Rattle.mm_rules.specs.Verdict.{labels_of};
 ghost use Rattle.mm_rules.specs.Status.{number_of};
 ghost use Rattle.mm_verdict.specs.Reply.{IsAskReply, lines_of};
-ghost use Rattle.mm_check.specs.Reply.{IsAxiomsReply, IsFormText, IsFormTextFault};
+ghost use Rattle.mm_check.specs.Reply.{IsAxiomsReply, IsFormText, IsFormTextFault, IsReportFor};
 ghost use Rattle.mm_check.specs.Reply.{IsSameReply, IsAnswerTo, ListsUsers};
 ghost use Rattle.mm_check.specs.Reply.{same_text, same_status};
 ghost use Rattle.mm_check.specs.Reply.{report_text as report_text_at};
 ghost use Rattle.mm_check.specs.Reply.{report_status as report_status_at};
 ghost use Rattle.mm_render.specs.Saved.{IsSaveFault};
 ghost use Rattle.mm_axioms.specs.Users.{AreUsers, IsAssertionFault};
+ghost use Rattle.mm_rules.specs.Rests.{IsAskFault};
 
-use mm_axioms::{Report, all_users, axioms, direct_users};
+use crate::chain::chain_answer;
+use mm_axioms::{Report, all_users, axioms, direct_users, essential_axioms};
 use mm_frame::LabelId;
-use mm_minimize::minimized_by_library;
+use mm_minimize::{SearchWatch, minimized_by_library};
 use mm_render::{
     is_same_proof, normal_form, packed_form, proof_listing, saved_file, small_form, statement_text,
     uses_listing,
@@ -47,8 +49,10 @@ pub enum WholeQuestion {
 /// A question about the theorem with a label, or about the assertion or the statement.
 #[derive(Clone, Copy, PartialEq, Eq, Debug)]
 pub enum Question<'a> {
-    /// What it depends on.
-    Axioms,
+    /// What it depends on; if `essential`, of the axioms those alone that have its type code.
+    Axioms { essential: bool },
+    /// Why it depends on the assertion with this label: for a shortest chain of uses.
+    Chain(&'a [u8]),
     /// How it is proved, step by step.
     Show,
     /// What each step of its proof uses; if `essential`, of the steps alone that are reached from
@@ -124,13 +128,43 @@ fn report_status(report: &Report) -> Status
     }
 }
 
+/// What the theorem with a label depends on, or of its axioms those alone that have its type code.
+fn report_of(
+    alloc: Global,
+    checked: &Checked,
+    label: &[u8],
+    essential: bool,
+) -> Result<Report, AskFault>
+    ensures report { IfOk result (λ report. (statements : List PlainStatement)
+        → Reads checked.now.files statements None → IsReportFor essential statements label.now
+        (map (λ id. id.0) report.axioms.items) (map (λ id. id.0) report.unproved.items)) }
+    ensures fault { IfErr result (λ fault. (statements : List PlainStatement)
+        → Reads checked.now.files statements None → IsAskFault statements label.now fault) }
+    ensures in_range { IfOk result (λ report.
+        AllByRecursion (λ n. n < length checked.now.labels) (map (λ id. id.0) report.axioms.items)
+        × AllByRecursion (λ n. n < length checked.now.labels)
+        (map (λ id. id.0) report.unproved.items)) }
+{
+    if essential {
+        essential_axioms(alloc, checked, label)
+    } else {
+        axioms(alloc, checked, label)
+    }
+}
+
 /// The reply of a database in which nothing is at fault to the question what a theorem depends on.
-fn axioms_answer(alloc: Global, checked: &Checked, label: &[u8]) -> Result<Reply, AllocError>
+fn axioms_answer(
+    alloc: Global,
+    checked: &Checked,
+    label: &[u8],
+    essential: bool,
+) -> Result<Reply, AllocError>
     ensures { IfOk result (λ reply. (statements : List PlainStatement)
         → Reads checked.now.files statements None → checked.now.labels ≡ labels_of statements
-        → IsAxiomsReply label.now statements reply.text.items (number_of reply.status)) }
+        → IsAxiomsReply essential label.now statements reply.text.items
+        (number_of reply.status)) }
 {
-    match axioms(alloc, checked, label) {
+    match report_of(alloc, checked, label, essential) {
         Ok(report) => {
             let text = report_text(alloc, checked, &report)?;
             let status = report_status(&report);
@@ -286,11 +320,12 @@ fn users_text(
 }
 
 /// The reply of a database in which nothing is at fault to a question about a label.
-pub(crate) fn answer_to(
+pub(crate) fn answer_to<W: SearchWatch>(
     alloc: Global,
     checked: &Checked,
     question: &Question,
     label: &[u8],
+    watch: &mut W,
 ) -> Result<Reply, AllocError>
     requires { KeepsLabels checked.now.files checked.now }
     ensures { IfOk result (λ reply. (statements : List PlainStatement)
@@ -299,7 +334,8 @@ pub(crate) fn answer_to(
         reply.text.items (number_of reply.status)) }
 {
     match question {
-        Question::Axioms => axioms_answer(alloc, checked, label),
+        Question::Axioms { essential } => axioms_answer(alloc, checked, label, *essential),
+        Question::Chain(other) => chain_answer(alloc, checked, label, other),
         Question::Show => text_reply(alloc, label, proof_listing(alloc, checked, label)),
         Question::Uses { essential } => {
             text_reply(
@@ -321,7 +357,11 @@ pub(crate) fn answer_to(
         }
         Question::Statement => text_reply(alloc, label, statement_text(alloc, checked, label)),
         Question::Minimized => {
-            text_reply(alloc, label, minimized_by_library(alloc, checked, label))
+            text_reply(
+                alloc,
+                label,
+                minimized_by_library(alloc, checked, label, watch),
+            )
         }
     }
 }

@@ -17,12 +17,13 @@ use crate::accepted::{Asked, checked_reply};
 use crate::question::WholeQuestion;
 use mm_base::{File, Seed};
 use mm_explain::{Unaccepted, explained};
+use mm_minimize::SearchWatch;
 use mm_render::SaveFault;
 use mm_rules::{AskFault, AskRule, CheckFault, Refusal, Status, name_of};
 use mm_save::saved_all;
 use mm_step::Profile;
 use mm_verdict::{
-    AllFaults, Checked, Form, Reply, Watch, accepted_reply, all_faults, ask_reply, fault_reply,
+    AllFaults, Checked, Form, Reply, accepted_reply, all_faults, ask_reply, fault_reply,
     first_status, push_refusals,
 };
 use std::alloc::{AllocError, Global};
@@ -112,7 +113,7 @@ fn why_reply(
 }
 
 /// The reply to a question about the whole database under a profile.
-pub(crate) fn whole_reply<W: Watch>(
+pub(crate) fn whole_reply<W: SearchWatch>(
     alloc: Global,
     seed: Seed,
     files: &[File],

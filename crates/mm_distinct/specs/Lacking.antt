@@ -41,7 +41,7 @@ pub record PassElsewhere (Fits : Expression → Type 0) (before : List Sentence)
 -- A step of the moves asks the two to be an active pair: it breaks no rule that is judged before
 -- P12, and what replaces the members of a mandatory pair of its assertion, on the stack before it,
 -- has the one and the other.
-pub record AskApart (Fits : Expression → Type 0) (before : List Sentence)
+pub record AskDisjoint (Fits : Expression → Type 0) (before : List Sentence)
     (moves : List (Move (List ℕ))) (u v : Symbol) : Type 0 where
   pub earlier : List (Move (List ℕ))
   pub label : List ℕ
@@ -63,5 +63,5 @@ pub record AreLacking (Fits : Expression → Type 0) (before : List Sentence)
   pub meant : AllMeant (with_pairs before pairs)
   pub enough : PassElsewhere Fits (with_pairs before pairs) moves
   pub needed : (p : Symbol × Symbol) → Contains pairs p
-      → IsUnstated before p × AskApart Fits (with_pairs before pairs) moves p.0 p.1
+      → IsUnstated before p × AskDisjoint Fits (with_pairs before pairs) moves p.0 p.1
   pub in_order : StandInOrder (IsEarlierPair before) pairs

@@ -24,7 +24,7 @@ ghost use Rattle.mm_step.specs.Mirror.CodeAsked.{AreSamePairs, IsEachHigher};
 ghost use Rattle.mm_step.specs.Mirror.CodeAsked.{ArePutInOrder, AreMissingInOrder};
 ghost use Rattle.mm_step.specs.Mirror.CodeAsked.{AreSharedNumbers, AreMissingNumbers};
 
-use mm_frame::{Book, Frame, LabelId, Piece, Scheme, ShortPiece, Sym, one_number};
+use mm_frame::{Book, Frame, LabelId, Piece, ShortPiece, Signature, Sym, one_number};
 use mm_step::{after_first, has_symbol, variables_in};
 use std::alloc::{AllocError, Global};
 
@@ -68,26 +68,27 @@ fn typed_value(alloc: Global, code: Sym, entry: &[Sym]) -> Result<Vec<Sym>, Allo
 // What the hypothesis at the number asks of the entries.
 fn asked_in(
     alloc: Global,
-    scheme: &Scheme,
+    signature: &Signature,
     entries: &[&[Sym]],
     number: usize,
 ) -> Result<Vec<Sym>, AllocError>
     requires patterns { (statements : List Sentence)
-        × HavePatterns statements (variables_of scheme.now.hypotheses.now) scheme.now.pieces.now
-        scheme.now.hypotheses.now }
-    requires entries { length scheme.now.hypotheses.now ≡ length entries.now }
+        × HavePatterns statements (variables_of signature.now.hypotheses.now)
+        signature.now.pieces.now
+        signature.now.hypotheses.now }
+    requires entries { length signature.now.hypotheses.now ≡ length entries.now }
     requires number { number < length entries.now }
     ensures { (hypothesis : Hypothesis)
-        → slice_get scheme.now.hypotheses.now number ≡ Some hypothesis
+        → slice_get signature.now.hypotheses.now number ≡ Some hypothesis
         → IfOk result (λ asked. numbers_in asked.items
         ≡ asked_numbers (entries_in entries.now) number
-        (slice_range scheme.now.pieces.now hypothesis.pattern.start hypothesis.pattern.end)
+        (slice_range signature.now.pieces.now hypothesis.pattern.start hypothesis.pattern.end)
         hypothesis.typing) }
 {
-    let hypothesis = &scheme.hypotheses[number];
+    let hypothesis = &signature.hypotheses[number];
     match hypothesis.typing {
         Some((code, _)) => typed_value(alloc, code, entries[number]),
-        None => said_of(alloc, entries, scheme.pattern(hypothesis)),
+        None => said_of(alloc, entries, signature.pattern(hypothesis)),
     }
 }
 
@@ -125,8 +126,8 @@ pub fn asked_by(
     one_number();
     // The frame of the `$p` tells that its book is sound.
     let _own = book.frame(id);
-    let scheme = book.frame(assertion).scheme();
-    asked_in(alloc, &scheme, entries, number)
+    let signature = book.frame(assertion).signature();
+    asked_in(alloc, &signature, entries, number)
 }
 
 // Puts the symbol behind the others where it stands in the expression, and isn't among them.

@@ -12,7 +12,7 @@ ghost use Rattle.mm_frame.specs.Pieces.{variables_of, HasIndices, HaveIndices};
 ghost use Rattle.mm_step.specs.Stores.{numbers_in};
 ghost use Rattle.mm_step.specs.Mirror.CodeAsked.{number_pairs};
 ghost use Rattle.mm_step.specs.Mirror.CodeVerify.{AreStackEntries, value_of, pairs_in};
-ghost use Rattle.mm_step.specs.Mirror.CodeApply.{IsEarlierScheme, IsCallOf};
+ghost use Rattle.mm_step.specs.Mirror.CodeApply.{IsEarlierSignature, IsCallOf};
 ghost use Rattle.mm_distinct.specs.Mirror.CodeLacking.{AddsBetween, AddsLacking, StepsWith};
 ghost use Rattle.mm_distinct.specs.Mirror.CodeLacking.{AreLackingNumbers};
 ghost use Rattle.mm_step.specs.Mirror.CodeRun.{MayBeMade};
@@ -27,7 +27,7 @@ ghost use Rattle.mm_distinct.specs.Lacking.{AreLacking};
 
 use crate::asked::{add_missing_of, put_in_order};
 use mm_code::Code;
-use mm_frame::{Book, DistinctPair, Frame, LabelId, Scheme, Sym, one_number};
+use mm_frame::{Book, DistinctPair, Frame, LabelId, Signature, Sym, one_number};
 use mm_proof::machine::run;
 use mm_proof::{Machine, Steps, calls_of};
 use mm_step::{
@@ -85,18 +85,19 @@ fn add_of_each<S: Store>(
     base: usize,
     book: &Book,
     own: &Frame,
-    scheme: &Scheme,
+    signature: &Signature,
 ) -> Result<(), AllocError>
     requires book { own.now.statements ≡ book.now.statements }
-    requires indices { HaveIndices (variables_of scheme.now.hypotheses.now) scheme.now.pairs.now }
-    requires entries { base + length scheme.now.hypotheses.now ≡ length (S.stack store.now) }
+    requires indices { HaveIndices (variables_of signature.now.hypotheses.now)
+        signature.now.pairs.now }
+    requires entries { base + length signature.now.hypotheses.now ≡ length (S.stack store.now) }
     requires fits { length (S.stack store.now) < 2 ^ 64 }
     ensures { OnOk result (AddsLacking book.now.statements own.now.index
-        (value_of (variables_of scheme.now.hypotheses.now) (drop base (S.stack store.now)))
-        (pairs_in scheme.now.pairs.now)
+        (value_of (variables_of signature.now.hypotheses.now) (drop base (S.stack store.now)))
+        (pairs_in signature.now.pairs.now)
         (number_pairs lacking.old.items) (number_pairs lacking.new.items)) }
 {
-    for pair in scheme.pairs {
+    for pair in signature.pairs {
         add_of_pair(lacking, store, base, book, own, *pair)?;
     }
     Ok(())
@@ -111,22 +112,23 @@ fn add_of_pairs<S: Store>(
     base: usize,
     book: &Book,
     own: &Frame,
-    scheme: &Scheme,
+    signature: &Signature,
 ) -> Result<(), AllocError>
     requires book { own.now.statements ≡ book.now.statements }
-    requires indices { HaveIndices (variables_of scheme.now.hypotheses.now) scheme.now.pairs.now }
-    requires entries { base + length scheme.now.hypotheses.now ≡ length (S.stack store.now) }
+    requires indices { HaveIndices (variables_of signature.now.hypotheses.now)
+        signature.now.pairs.now }
+    requires entries { base + length signature.now.hypotheses.now ≡ length (S.stack store.now) }
     requires fits { length (S.stack store.now) < 2 ^ 64 }
     ensures { OnOk result (AddsLacking book.now.statements own.now.index
-        (value_of (variables_of scheme.now.hypotheses.now) (drop base (S.stack store.now)))
-        (pairs_in scheme.now.pairs.now)
+        (value_of (variables_of signature.now.hypotheses.now) (drop base (S.stack store.now)))
+        (pairs_in signature.now.pairs.now)
         (number_pairs lacking.old.items) (number_pairs lacking.new.items)) }
 {
-    if scheme.pairs.is_empty() {
+    if signature.pairs.is_empty() {
         return Ok(());
     }
     let entries = entries_of_variables(alloc, store, base, book)?;
-    add_of_each(lacking, &entries, 0, book, own, scheme)
+    add_of_each(lacking, &entries, 0, book, own, signature)
 }
 
 // Makes the step by an assertion, unless it breaks a rule besides P12: whether it was made. The
@@ -137,37 +139,38 @@ fn step_assertion<S: Store>(
     store: &mut S,
     book: &Book,
     own: &Frame,
-    scheme: &Scheme,
+    signature: &Signature,
     limit: usize,
 ) -> Result<bool, AllocError>
     requires own { own.now.statements ≡ book.now.statements }
     requires sound { IsSound book.now.statements }
-    requires scheme { (id : ℕ) × IsEarlierScheme book.now.statements own.now.index id scheme.now }
+    requires signature { (id : ℕ)
+        × IsEarlierSignature book.now.statements own.now.index id signature.now }
     requires entries { AreStackEntries book.now.statements (take own.now.index book.now.statements)
         (S.stack store.old) }
     ensures steps { IfOk result (λ made.
-        (id : ℕ) → IsEarlierScheme book.now.statements own.now.index id scheme.now
+        (id : ℕ) → IsEarlierSignature book.now.statements own.now.index id signature.now
         → StepsWith limit book.now.statements own.now.index id (number_pairs lacking.old.items)
         (number_pairs lacking.new.items) (S.stack store.old) (S.stack store.new) made) }
     ensures kept { S.kept store.new ≡ S.kept store.old }
 {
     one_number();
     let count = store.len();
-    if count < scheme.hypotheses.len() {
+    if count < signature.hypotheses.len() {
         return Ok(false);
     }
-    let base = count - scheme.hypotheses.len();
-    let Some(floating) = typing_of(store, base, scheme.hypotheses) else {
+    let base = count - signature.hypotheses.len();
+    let Some(floating) = typing_of(store, base, signature.hypotheses) else {
         return Ok(false);
     };
-    if !are_equal(store, base, book, scheme, floating) {
+    if !are_equal(store, base, book, signature, floating) {
         return Ok(false);
     }
-    if has_shared_pair(store, base, book, own, scheme) {
+    if has_shared_pair(store, base, book, own, signature) {
         return Ok(false);
     }
-    add_of_pairs(alloc, lacking, store, base, book, own, scheme)?;
-    store.conclude(base, scheme.conclusion, limit)
+    add_of_pairs(alloc, lacking, store, base, book, own, signature)?;
+    store.conclude(base, signature.conclusion, limit)
 }
 
 // Makes the step by what a label stands for, unless it breaks a rule besides P12: whether it was
@@ -197,9 +200,9 @@ fn step_call<S: Store>(
             store.push(expression)?;
             Ok(true)
         }
-        Call::Assertion(scheme) => {
+        Call::Assertion(signature) => {
             step_assertion(
-                alloc, lacking, store, site.book, &site.own, scheme, site.limit,
+                alloc, lacking, store, site.book, &site.own, signature, site.limit,
             )
         }
     }

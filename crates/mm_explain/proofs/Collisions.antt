@@ -12,14 +12,14 @@ use Rattle.mm_frame.specs.declared.rule.MeaningRule.{MeaningRule}
 use Rattle.mm_frame.specs.declared.rule.MeaningRule.TheVariants.{M1}
 use Rattle.mm_frame.specs.Breaking.{BreaksAt}
 use Rattle.mm_frame.specs.Sentence.{sentence_of}
-use Rattle.mm_explain.specs.declared.semantic_error.Breach.{Breach}
+use Rattle.mm_explain.specs.declared.semantic_error.SemanticError.{SemanticError}
 use Rattle.mm_rules.specs.declared.rule.Rule.TheVariants as rules
 use Rattle.mm_facts.specs.Explained.{Detail, token_at_fault, block_opened}
 use Rattle.mm_explain.specs.MeaningFacts.{AreEarlierFacts, AreMeaningFacts, token_at}
 use Rattle.mm_rules.specs.Places.{token_place}
 use Rattle.mm_explain.specs.MeaningFacts.{last_looked_at, last_met, looked_at, looked_at_within}
 use Rattle.mm_explain.specs.MeaningFacts.{met_facts}
-use Rattle.mm_explain.specs.Mirror.Breaches.{IsBreach, IsBroken, IsStopped, Site}
+use Rattle.mm_explain.specs.Mirror.SemanticErrors.{IsSemanticError, IsBroken, IsStopped, Site}
 use Rattle.mm_rules.specs.Verdict.{PlainRefusal, sentences}
 use Rattle.mm_explain.proofs.NamesMet.{met-append}
 
@@ -60,19 +60,19 @@ module _ {files : List PlainFile} {refusal : PlainRefusal} (stop : IsStopped fil
     broken = rw (same_rule rule is) at stop.refused.broken;
   }
 
-  -- what is known of the breach explains the refusal
-  pub facts_told : (breach : Breach) (token : PlainToken) (earlier : List Detail)
-      → IsBreach files breach → breach.before + 1 ≡ refusal.statement
-      → refusal.rule ≡ rules.Meaning breach.rule
-      → token ≡ token_at (plain_statement breach.statement) breach.index
-      → ((site : Site files breach.before)
-      → AreEarlierFacts files breach.rule site.before site.s breach.index earlier)
+  -- what is known of the error explains the refusal
+  pub facts_told : (error : SemanticError) (token : PlainToken) (earlier : List Detail)
+      → IsSemanticError files error → error.before + 1 ≡ refusal.statement
+      → refusal.rule ≡ rules.Meaning error.rule
+      → token ≡ token_at (plain_statement error.statement) error.index
+      → ((site : Site files error.before)
+      → AreEarlierFacts files error.rule site.before site.s error.index earlier)
       → AreMeaningFacts files refusal token.at (token_at_fault token.text ∷ earlier)
-  facts_told breach token earlier known counted is at_fault met =
-      let site : Site files breach.before = stop_site breach.before counted in
-      let rule : breach.rule ≡ stop.refused.rule = sym (same_rule breach.rule is) in
-      let here : token ≡ token_at stop.s breach.index =
-      at_fault ∙ ap (λ (s : PlainStatement). token_at s breach.index) (known.statement site) in
+  facts_told error token earlier known counted is at_fault met =
+      let site : Site files error.before = stop_site error.before counted in
+      let rule : error.rule ≡ stop.refused.rule = sym (same_rule error.rule is) in
+      let here : token ≡ token_at stop.s error.index =
+      at_fault ∙ ap (λ (s : PlainStatement). token_at s error.index) (known.statement site) in
       record {
         before = stop.before;
         s = stop.s;
@@ -80,11 +80,11 @@ module _ {files : List PlainFile} {refusal : PlainRefusal} (stop : IsStopped fil
         ending = stop.ending;
         reads = stop.reads;
         refused = stop.refused;
-        index = breach.index;
-        breaks = subst (λ (r : MeaningRule). BreaksAt r (sentences stop.before) (sentence_of stop.s) breach.index) rule (known.breaks site);
+        index = error.index;
+        breaks = subst (λ (r : MeaningRule). BreaksAt r (sentences stop.before) (sentence_of stop.s) error.index) rule (known.breaks site);
         place = ap (λ (t : PlainToken). t.at) here;
         earlier = earlier;
-        met = subst (λ (r : MeaningRule). AreEarlierFacts files r stop.before stop.s breach.index earlier) rule (met site);
+        met = subst (λ (r : MeaningRule). AreEarlierFacts files r stop.before stop.s error.index earlier) rule (met site);
         told = ap (λ (t : PlainToken). token_at_fault t.text ∷ earlier) here;
       }
 
@@ -119,19 +119,19 @@ block_there files before s index t (outer, opening, inner, file, at) =
     (outer, opening, inner, rw (file, at) refl)
 
 -- where the name of the token at fault was met last, by what was found of it
-pub met_for : (files : List PlainFile) (breach : Breach) (token : Token) (own : Option Token)
-    (earlier : Option PlainToken) → IsBreach files breach
-    → plain_token token ≡ token_at (plain_statement breach.statement) breach.index
+pub met_for : (files : List PlainFile) (error : SemanticError) (token : Token) (own : Option Token)
+    (earlier : Option PlainToken) → IsSemanticError files error
+    → plain_token token ≡ token_at (plain_statement error.statement) error.index
     → option_map plain_token own
     ≡ last_met token.text.now
-    (looked_at_within breach.rule (plain_statement breach.statement) breach.index)
-    → (site : Site files breach.before)
-    → earlier ≡ last_met token.text.now (flat_map (looked_at breach.rule) site.before)
+    (looked_at_within error.rule (plain_statement error.statement) error.index)
+    → (site : Site files error.before)
+    → earlier ≡ last_met token.text.now (flat_map (looked_at error.rule) site.before)
     → option_or (option_map plain_token own) earlier
-    ≡ last_looked_at breach.rule site.before site.s breach.index (token_at site.s breach.index).text
-met_for files breach token own earlier known at_fault here site there =
-    let same : plain_statement breach.statement ≡ site.s = known.statement site in
-    let text : token.text.now ≡ (token_at site.s breach.index).text =
-    ap (λ (t : PlainToken). t.text) (at_fault ∙ ap (λ (s : PlainStatement). token_at s breach.index) same) in
-    met_there breach.rule site.before site.s breach.index (token_at site.s breach.index).text own earlier
+    ≡ last_looked_at error.rule site.before site.s error.index (token_at site.s error.index).text
+met_for files error token own earlier known at_fault here site there =
+    let same : plain_statement error.statement ≡ site.s = known.statement site in
+    let text : token.text.now ≡ (token_at site.s error.index).text =
+    ap (λ (t : PlainToken). t.text) (at_fault ∙ ap (λ (s : PlainStatement). token_at s error.index) same) in
+    met_there error.rule site.before site.s error.index (token_at site.s error.index).text own earlier
     (rw (text, same) at here) (rw text at there)

@@ -412,7 +412,7 @@ module _ (profile : Profile) (files : List PlainFile) (listed : List PlainRefusa
     (others : AllByRecursion (λ r. is_of_proofs r.rule ≡ false) (map plain_refusal ends))
     (put₁ : text₁ ≡ text₀ ++ more_text profile (length refusals - most_explained))
     (told : List (List ℕ)) (ended : AllZip (IsLastExplanation files) (map plain_refusal ends) told)
-    (put₂ : text₂ ≡ text₁ ++ flat_map (λ t. t) told) where
+    (put₂ : text₂ ≡ flat_map (λ t. t) told ++ text₁) where
   tells : (count : ℕ) → count ≡ length (listed ++ map plain_refusal ends)
       → text ≡ text₂ ++ count_text count
       → TellsFaults profile files (listed ++ map plain_refusal ends) text

@@ -25,8 +25,8 @@ use Rattle.mm_frame.specs.Active.{open_marks, close_marks}
 use Rattle.mm_frame.specs.Rules.{Breaks}
 use Rattle.mm_frame.specs.Sentence.{Sentence, sentence_of}
 use Rattle.mm_frame.proofs.Blocks.NumberedBlocks.{open_unclosed}
-use Rattle.mm_explain.specs.Mirror.Breaches.{AreOpenBlocks, IsBroken, Site, position_of}
-use Rattle.mm_explain.specs.Mirror.Breaches.{positions_after, positions_from}
+use Rattle.mm_explain.specs.Mirror.SemanticErrors.{AreOpenBlocks, IsBroken, Site, position_of}
+use Rattle.mm_explain.specs.Mirror.SemanticErrors.{positions_after, positions_from}
 use Rattle.mm_rules.specs.Verdict.{sentences}
 use Rattle.mm_verdict.proofs.Verdicts.AcceptedStatements.{counted_alike}
 

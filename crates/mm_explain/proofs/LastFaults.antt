@@ -26,7 +26,8 @@ use Rattle.mm_facts.specs.Explained.{Detail, token_at_fault, detail_text, detail
 use Rattle.mm_explain.specs.Near.{IsLabelOf}
 use Rattle.mm_rules.specs.Places.{bytes_of}
 use Rattle.mm_explain.specs.TextFacts.{AreBegun, AreOrigins, AreTextFacts, blocks_closed}
-use Rattle.mm_explain.specs.TextFacts.{blocks_opened, closing_tokens}
+use Rattle.mm_explain.specs.TextFacts.{blocks_opened, closing_tokens, missing_facts}
+use Rattle.mm_facts.proofs.LackingDetails.{both_told}
 use Rattle.mm_explain.specs.TextFacts.{files_up_to, last_of, places_begun, token_from, unclosed_in}
 use Rattle.mm_explain.specs.Mirror.Last.{EndsRun, IsBegin, IsOpenBlock, TellsOrigins}
 use Rattle.mm_facts.proofs.NearLabels.{name_kept}
@@ -238,21 +239,33 @@ module _ {T E : Type 0} (files : List PlainFile) (refusal : PlainRefusal) (old n
 -- the token, and then where what it stands in began
 pub text_told : (files : List PlainFile) (refusal : PlainRefusal)
     (statements : List PlainStatement) (fault : PlainFault) → Reads files statements (Some fault)
-    → refusal ≡ text_refusal files fault → (bytes token start middle out : List ℕ)
+    → refusal ≡ text_refusal files fault → (bytes token start first_out middle out : List ℕ)
+    → (rule : TextRule) → rules.Text rule ≡ refusal.rule
     → bytes ≡ bytes_of files refusal.file → token ≡ token_from bytes refusal.at → start ≡ []
-    → middle ≡ start ++ detail_text (token_at_fault token)
+    → first_out ≡ start ++ detail_text (token_at_fault token)
+    → middle ≡ first_out ++ details_text (missing_facts rule token)
     → TellsOrigins files statements fault middle out
     → (details : List Detail) × AreTextFacts files refusal refusal.at details
     × (out ≡ details_text details)
-text_told files refusal statements fault reads refused bytes token start middle out from is none put
-    told =
+text_told files refusal statements fault reads refused bytes token start first_out middle out rule
+    ruled from is none put more told =
+    let there : List ℕ = token_from (bytes_of files fault.file) fault.at in
+    let same_rule : rules.Text rule ≡ rules.Text fault.rule =
+    ruled ∙ ap (λ (p : PlainRefusal). p.rule) refused in
+    let its : rule ≡ fault.rule = cc in
+    let fact : Detail = token_at_fault there in
+    let missed : List Detail = missing_facts fault.rule there in
     let word : token ≡ token_from (bytes_of files fault.file) fault.at =
     is ∙ ap (λ b. token_from b refusal.at) from
     ∙ ap (λ (p : PlainRefusal). token_from (bytes_of files p.file) p.at) refused in
-    let first : middle ≡ detail_text (token_at_fault (token_from (bytes_of files fault.file) fault.at)) =
+    let first : first_out ≡ [] ++ details_text (fact ∷ []) =
     put ∙ ap (λ s. s ++ detail_text (token_at_fault token)) none
-    ∙ ap (λ t. detail_text (token_at_fault t)) word in (
-      token_at_fault (token_from (bytes_of files fault.file) fault.at) ∷ told.details,
+    ∙ ap (λ t. detail_text (token_at_fault t)) word ∙ sym (append-nil (detail_text fact)) in
+    let second : middle ≡ first_out ++ details_text missed =
+    more ∙ ap (λ (r : TextRule). first_out ++ details_text (missing_facts r token)) its
+    ∙ ap (λ (t : List ℕ). first_out ++ details_text (missing_facts fault.rule t)) word in
+    let both = both_told (fact ∷ []) missed [] first_out middle first second in (
+      fact ∷ (missed ++ told.details),
       record {
         statements = statements;
         fault = fault;
@@ -263,7 +276,7 @@ text_told files refusal statements fault reads refused bytes token start middle 
         begun = told.begun;
         told = refl;
       },
-      told.put ∙ ap (λ m. m ++ details_text told.details) first,
+      both_told (fact ∷ missed) told.details [] middle out both told.put,
     )
 
 -- ==== the search for a label

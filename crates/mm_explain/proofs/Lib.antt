@@ -3,7 +3,7 @@ pub mod Explanations
 pub mod LastFaults
 pub mod CutFiles
 pub mod LaterLabels
-pub mod Breaches
+pub mod SemanticErrors
 pub mod InnermostBlocks
 pub mod NamesMet
 pub mod Collisions

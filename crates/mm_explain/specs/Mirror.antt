@@ -4,5 +4,5 @@
 pub mod Reached
 pub mod Reasons
 pub mod Standing
-pub mod Breaches
+pub mod SemanticErrors
 pub mod Last

@@ -1,13 +1,15 @@
--- What explains a fault of the text: the token at fault, and places, where some are told: for S6 where
--- the last block is closed; else where the comment, the inclusion or the statement began in which
--- the token stands. The files up to the token tell that: they end in what isn't closed there. For
--- X6 it is also told where the innermost open block begins. The facts are this project's own.
+-- What explains a fault of the text: the token at fault; what is missing before it, for S1 and S4
+-- where these two tell that; and places, where some are told: for S6 where the last block is closed;
+-- else where the comment, the inclusion or the statement began in which the token stands. The files
+-- up to the token tell that: they end in what isn't closed there. For X6 it is also told where the
+-- innermost open block begins. The facts are this project's own.
 use Rattle.std.specs.Prelude.{◌≡◌, ℕ, ◌-◌, ◌==◌, ◌&&◌, if◌then◌else◌, List, ◌∷◌, map, not, filter}
 use Rattle.std.specs.Prelude.{length, drop, take, slice_get, take_while, Bool, true, false, Option}
-use Rattle.std.specs.Prelude.{Some, None, [], ◌++◌, ◌⊎◌}
+use Rattle.std.specs.Prelude.{Some, None, [], ◌++◌, ◌⊎◌, ◌||◌, codes}
+use Rattle.std.specs.Str.{bytes_eq}
 use Rattle.std.specs.Option.{option_to_list}
 use Rattle.mm_text.specs.declared.fault.TextRule.{TextRule}
-use Rattle.mm_text.specs.declared.fault.TextRule.TheVariants.{X2, X5, X6, X8, S6}
+use Rattle.mm_text.specs.declared.fault.TextRule.TheVariants.{X2, X5, X6, X8, S1, S4, S6}
 use Rattle.mm_base.specs.Token.{PlainToken, is_space}
 use Rattle.mm_base.specs.Statement.{PlainStatement}
 use Rattle.mm_base.specs.Blocks.{is_closing, AreClosed, IsInnermost}
@@ -16,7 +18,7 @@ use Rattle.mm_text.specs.Reading.{PlainFault, Reads}
 use Rattle.mm_text.specs.Replaced.{with_bytes}
 use Rattle.mm_rules.specs.Verdict.{PlainRefusal, text_refusal}
 use Rattle.mm_facts.specs.Explained.{Detail, token_at_fault, begun_at, block_opened}
-use Rattle.mm_facts.specs.Explained.{last_closed_at}
+use Rattle.mm_facts.specs.Explained.{last_closed_at, missing_before}
 use Rattle.mm_rules.specs.Places.{bytes_of, place_of, place_text, token_place}
 
 -- the token that begins at a position: the bytes from there up to the next white space
@@ -40,6 +42,12 @@ abbrev pub unclosed_in : (file : ℕ) → Option PlainFault → Option ℕ
 unclosed_in file None = None
 unclosed_in file (Some fault) =
     if fault.file == file && is_of_unclosed fault.rule then Some fault.at else None
+
+-- whether the token is the keyword of a statement that has a label
+abbrev pub is_labelled : List ℕ → Bool
+is_labelled token =
+    bytes_eq token (codes "$f") || bytes_eq token (codes "$e") || bytes_eq token (codes "$a")
+    || bytes_eq token (codes "$p")
 
 -- the last one
 abbrev pub last_of : {X : Type 0} → List X → Option X
@@ -89,6 +97,20 @@ AreOrigins files statements fault X6 details =
     × AreBlocksOpened files statements opened × (details ≡ begun ++ opened)
 AreOrigins files statements fault rule details = AreBegun files fault details
 
+-- What is missing before the token at which the rule is broken, where the two tell that: the label
+-- of a `$f`, `$e`, `$a` or `$p`; the `$=` of a `$p` before its `$.`; the `$.` of a statement before
+-- another keyword. A `$=` may be one too many.
+abbrev pub missing : TextRule → (token : List ℕ) → Option (List ℕ)
+missing S1 token = if is_labelled token then Some (codes "a label") else None
+missing S4 token =
+    if bytes_eq token (codes "$.") then Some (codes "$=")
+    else if bytes_eq token (codes "$=") then None else Some (codes "$.")
+missing rule token = None
+
+-- that fact
+abbrev pub missing_facts : TextRule → (token : List ℕ) → List Detail
+missing_facts rule token = map missing_before (option_to_list (missing rule token))
+
 -- The facts that explain the refusal for the fault of the text, in order, and the position that is
 -- told.
 pub record AreTextFacts (files : List PlainFile) (refusal : PlainRefusal) (at : ℕ)
@@ -100,4 +122,5 @@ pub record AreTextFacts (files : List PlainFile) (refusal : PlainRefusal) (at : 
   pub there : at ≡ fault.at
   pub origins : List Detail
   pub begun : AreOrigins files statements fault fault.rule origins
-  pub told : details ≡ token_at_fault (token_from (bytes_of files fault.file) fault.at) ∷ origins
+  pub told : details ≡ token_at_fault (token_from (bytes_of files fault.file) fault.at)
+      ∷ (missing_facts fault.rule (token_from (bytes_of files fault.file) fault.at) ++ origins)

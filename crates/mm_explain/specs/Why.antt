@@ -113,8 +113,8 @@ abbrev pub count_text : ℕ → List ℕ
 count_text count =
     if count == 1 then codes "1 fault\n" else (decimal count ++ codes " faults\n")
 
--- The text tells these faults: it explains the first of those of proofs, counts the others, explains
--- the one that ended the run, if one did, and counts all.
+-- The text tells these faults: it explains the one that ended the run, if one did, and the first of
+-- those of proofs, counts the others of proofs, and counts all.
 pub record TellsFaults (profile : Profile) (files : List PlainFile) (refusals : List PlainRefusal)
     (text : List ℕ) : Type 0 where
   pub explanations : List (List ℕ)
@@ -123,7 +123,6 @@ pub record TellsFaults (profile : Profile) (files : List PlainFile) (refusals : 
   pub last : List (List ℕ)
   pub ended : AllZip (IsLastExplanation files) (filter (λ r. not (is_of_proofs r.rule)) refusals)
       last
-  pub said : text ≡ flat_map (λ t. t) explanations
+  pub said : text ≡ flat_map (λ t. t) last ++ flat_map (λ t. t) explanations
       ++ more_text profile (length (filter (λ r. is_of_proofs r.rule) refusals) - most_explained)
-      ++ flat_map (λ t. t) last
       ++ count_text (length refusals)

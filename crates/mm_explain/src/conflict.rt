@@ -7,13 +7,14 @@ ghost use Rattle.mm_base.specs.Statement.{PlainStatement};
 ghost use Rattle.mm_rules.specs.Answer.{plain_refusal};
 ghost use Rattle.mm_facts.specs.Explained.{Detail, details_text};
 ghost use Rattle.mm_explain.specs.MeaningFacts.{AreEarlierFacts, AreMeaningFacts};
-ghost use Rattle.mm_explain.specs.Mirror.Breaches.{AreOpenBlocks, IsBreach, IsStopped, Site};
-ghost use Rattle.mm_explain.specs.Mirror.Breaches.{position_of, positions_after};
+ghost use Rattle.mm_explain.specs.Mirror.SemanticErrors.{AreOpenBlocks, IsSemanticError};
+ghost use Rattle.mm_explain.specs.Mirror.SemanticErrors.{IsStopped, Site};
+ghost use Rattle.mm_explain.specs.Mirror.SemanticErrors.{position_of, positions_after};
 ghost use Rattle.mm_rules.specs.Verdict.{CanBeRead};
 ghost use Rattle.mm_rules.specs.declared.rule.Rule.TheVariants.{Meaning};
 
 use crate::earlier_declaration::last_met_before;
-use crate::semantic_error::{Breach, read_breach};
+use crate::semantic_error::{SemanticError, read_semantic_error};
 use mm_base::{File, Kind, Seed, Statement, Token};
 use mm_facts::{push_block, push_met, push_token};
 use mm_frame::MeaningRule;
@@ -96,22 +97,22 @@ fn push_earlier<'a>(
     alloc: Global,
     seed: Seed,
     files: &'a [File<'a>],
-    breach: &Breach<'a>,
+    error: &SemanticError<'a>,
 ) -> Result<(), AllocError>
-    requires { IsBreach (map plain_file files.now) breach.now }
+    requires { IsSemanticError (map plain_file files.now) error.now }
     ensures { OnOk result ((details : List Detail)
-        × ((site : Site (map plain_file files.now) breach.now.before)
-        → AreEarlierFacts (map plain_file files.now) breach.now.rule site.before site.s
-        breach.now.index details)
+        × ((site : Site (map plain_file files.now) error.now.before)
+        → AreEarlierFacts (map plain_file files.now) error.now.rule site.before site.s
+        error.now.index details)
         × (out.new.items ≡ out.old.items ++ details_text details)) }
 {
-    match breach.rule {
+    match error.rule {
         MeaningRule::M1 => {
-            let block = innermost_before(alloc, seed, files, breach.before)?;
+            let block = innermost_before(alloc, seed, files, error.before)?;
             push_block(out, files, block)
         }
-        _ => match last_met_before(alloc, seed, files, breach)? {
-            Some(token) => push_met(out, files, breach.rule, token),
+        _ => match last_met_before(alloc, seed, files, error)? {
+            Some(token) => push_met(out, files, error.rule, token),
             None => Ok(()),
         },
     }
@@ -131,10 +132,10 @@ pub(crate) fn meaning_facts<'a>(
         × (told.1.items ≡ details_text details)) }
 {
     let rule = meaning_rule(refusal);
-    let breach = read_breach(alloc, seed, files, refusal.statement - 1, rule)?;
-    let token = breach.token();
+    let error = read_semantic_error(alloc, seed, files, refusal.statement - 1, rule)?;
+    let token = error.token();
     let mut text = Vec::new(alloc);
     push_token(&mut text, token.text)?;
-    push_earlier(&mut text, alloc, seed, files, &breach)?;
+    push_earlier(&mut text, alloc, seed, files, &error)?;
     Ok((token.at as usize, text))
 }

@@ -9,10 +9,10 @@ ghost use Rattle.mm_base.specs.Token.{plain_token};
 ghost use Rattle.mm_explain.specs.MeaningFacts.{declared_by, last_met, looked_at, looked_at_within};
 ghost use Rattle.mm_explain.specs.MeaningFacts.{last_looked_at, mentions, symbols_before};
 ghost use Rattle.mm_explain.specs.MeaningFacts.{token_at, typed_by};
-ghost use Rattle.mm_explain.specs.Mirror.Breaches.{HasMet, IsBreach, Site};
+ghost use Rattle.mm_explain.specs.Mirror.SemanticErrors.{HasMet, IsSemanticError, Site};
 ghost use Rattle.mm_rules.specs.Verdict.{CanBeRead};
 
-use crate::semantic_error::Breach;
+use crate::semantic_error::SemanticError;
 use mm_base::{File, Kind, Seed, Statement, Token};
 use mm_frame::MeaningRule;
 use mm_text::{Passing, pass_first};
@@ -107,23 +107,23 @@ fn last_in<'a>(statement: &Statement<'a>, rule: MeaningRule, name: &[u8]) -> Opt
 }
 
 /// The last symbol with the name before the one that breaks the rule.
-fn last_symbol_before<'a>(breach: &Breach<'a>, name: &[u8]) -> Option<Token<'a>>
+fn last_symbol_before<'a>(error: &SemanticError<'a>, name: &[u8]) -> Option<Token<'a>>
     ensures { option_map plain_token result ≡ last_met name.now
-        (symbols_before (plain_statement breach.now.statement) breach.now.index) }
+        (symbols_before (plain_statement error.now.statement) error.now.index) }
 {
-    match breach.index {
-        Some(index) => last_among(first_of(&breach.statement.symbols, index), name),
+    match error.index {
+        Some(index) => last_among(first_of(&error.statement.symbols, index), name),
         None => None,
     }
 }
 
 /// Where the name was met last in the statement itself, of what the rule looks at.
-fn last_within<'a>(breach: &Breach<'a>, name: &[u8]) -> Option<Token<'a>>
+fn last_within<'a>(error: &SemanticError<'a>, name: &[u8]) -> Option<Token<'a>>
     ensures { option_map plain_token result ≡ last_met name.now (looked_at_within
-        breach.now.rule (plain_statement breach.now.statement) breach.now.index) }
+        error.now.rule (plain_statement error.now.statement) error.now.index) }
 {
-    match breach.rule {
-        MeaningRule::M2 | MeaningRule::M3 | MeaningRule::M9 => last_symbol_before(breach, name),
+    match error.rule {
+        MeaningRule::M2 | MeaningRule::M3 | MeaningRule::M9 => last_symbol_before(error, name),
         _ => None,
     }
 }
@@ -174,16 +174,16 @@ pub(crate) fn last_met_before<'a>(
     alloc: Global,
     seed: Seed,
     files: &'a [File<'a>],
-    breach: &Breach<'a>,
+    error: &SemanticError<'a>,
 ) -> Result<Option<Token<'a>>, AllocError>
-    requires { IsBreach (map plain_file files.now) breach.now }
-    ensures { IfOk result (λ last. (site : Site (map plain_file files.now) breach.now.before)
-        → option_map plain_token last ≡ last_looked_at breach.now.rule site.before site.s
-        breach.now.index (token_at site.s breach.now.index).text) }
+    requires { IsSemanticError (map plain_file files.now) error.now }
+    ensures { IfOk result (λ last. (site : Site (map plain_file files.now) error.now.before)
+        → option_map plain_token last ≡ last_looked_at error.now.rule site.before site.s
+        error.now.index (token_at site.s error.now.index).text) }
 {
-    let name = breach.token().text;
-    match last_within(breach, name) {
+    let name = error.token().text;
+    match last_within(error, name) {
         Some(token) => Ok(Some(token)),
-        None => last_before(alloc, seed, files, breach.before, breach.rule, name),
+        None => last_before(alloc, seed, files, error.before, error.rule, name),
     }
 }

@@ -6,7 +6,7 @@ ghost use Rattle.mm_step.specs.declared.profile.Profile.{Profile};
 ghost use Rattle.mm_facts.specs.Explained.{Detail, details_text};
 ghost use Rattle.mm_explain.specs.HypothesisPlaces.{AreHypothesisPlaces, AreStopPlaces};
 ghost use Rattle.mm_explain.specs.HypothesisPlaces.{AreTokenPlaces, tells_own as tells_own_of};
-ghost use Rattle.mm_explain.specs.Mirror.Breaches.{Site};
+ghost use Rattle.mm_explain.specs.Mirror.SemanticErrors.{Site};
 ghost use Rattle.mm_facts.specs.Mirror.Explaining.{IsCauseOf};
 ghost use Rattle.mm_explain.specs.Mirror.Standing.{IsPlaced};
 ghost use Rattle.mm_rules.specs.Verdict.{CanBeRead, proof_of};

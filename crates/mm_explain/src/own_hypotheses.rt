@@ -7,7 +7,7 @@ ghost use Rattle.mm_base.specs.Token.{plain_token};
 ghost use Rattle.mm_frame.specs.Sentence.{Sentence};
 ghost use Rattle.mm_facts.specs.Explained.{Detail, details_text};
 ghost use Rattle.mm_explain.specs.HypothesisPlaces.{AreOwnHypotheses};
-ghost use Rattle.mm_explain.specs.Mirror.Breaches.{Site};
+ghost use Rattle.mm_explain.specs.Mirror.SemanticErrors.{Site};
 ghost use Rattle.mm_explain.specs.Mirror.Standing.{AddsEach, AreEarlier, IsPlaced, firsts_of};
 ghost use Rattle.mm_rules.specs.Verdict.{CanBeRead};
 

@@ -5,7 +5,7 @@ ghost use Rattle.mm_text.specs.Files.{plain_file};
 ghost use Rattle.mm_base.specs.Statement.{PlainStatement, plain_statement};
 ghost use Rattle.mm_facts.specs.Explained.{Detail, details_text};
 ghost use Rattle.mm_explain.specs.HypothesisPlaces.{AreScopeFacts};
-ghost use Rattle.mm_explain.specs.Mirror.Breaches.{Site};
+ghost use Rattle.mm_explain.specs.Mirror.SemanticErrors.{Site};
 ghost use Rattle.mm_explain.specs.Mirror.Standing.{HasScope, IsScope};
 ghost use Rattle.mm_rules.specs.Verdict.{CanBeRead};
 

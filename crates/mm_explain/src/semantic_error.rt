@@ -8,8 +8,8 @@ ghost use Rattle.mm_base.specs.Token.{plain_token};
 ghost use Rattle.mm_frame.specs.Breaking.{BreaksAt};
 ghost use Rattle.mm_frame.specs.Sentence.{sentence_of};
 ghost use Rattle.mm_explain.specs.MeaningFacts.{token_at};
-ghost use Rattle.mm_explain.specs.Mirror.Breaches.{AreMeantBefore, IsBreach, IsBroken};
-ghost use Rattle.mm_explain.specs.Mirror.Breaches.{IsMeantNext, Site};
+ghost use Rattle.mm_explain.specs.Mirror.SemanticErrors.{AreMeantBefore, IsSemanticError, IsBroken};
+ghost use Rattle.mm_explain.specs.Mirror.SemanticErrors.{IsMeantNext, Site};
 ghost use Rattle.mm_verdict.specs.Mirror.Judged.{IsRead, TakesNext};
 ghost use Rattle.mm_rules.specs.Verdict.{CanBeRead, sentences};
 
@@ -22,7 +22,7 @@ use std::alloc::{AllocError, Global};
 
 /// A statement that breaks a rule of meaning.
 #[derive(Drop)]
-pub(crate) struct Breach<'a> {
+pub(crate) struct SemanticError<'a> {
     pub rule: MeaningRule,
     /// How many statements stand before it.
     pub before: usize,
@@ -31,7 +31,7 @@ pub(crate) struct Breach<'a> {
     pub index: Option<usize>,
 }
 
-impl<'a> Breach<'a> {
+impl<'a> SemanticError<'a> {
     /// The token at fault.
     pub fn token(&self) -> Token<'a>
         ensures { plain_token result
@@ -153,20 +153,20 @@ fn find_breaking<'a>(
     index
 }
 
-/// The breach of the rule by the statement that so many stand before. What stands before it is
+/// The error of the rule by the statement that so many stand before. What stands before it is
 /// read and taken again, and no proof is judged.
-pub(crate) fn read_breach<'a>(
+pub(crate) fn read_semantic_error<'a>(
     alloc: Global,
     seed: Seed,
     files: &'a [File<'a>],
     before: usize,
     rule: MeaningRule,
-) -> Result<Breach<'a>, AllocError>
+) -> Result<SemanticError<'a>, AllocError>
     requires readable { CanBeRead (map plain_file files.now) }
     requires broken { IsBroken (map plain_file files.now) before rule }
-    ensures breach { IfOk result (IsBreach (map plain_file files.now)) }
-    ensures rule { IfOk result (λ breach. breach.rule ≡ rule) }
-    ensures before { IfOk result (λ breach. breach.before ≡ before) }
+    ensures error { IfOk result (IsSemanticError (map plain_file files.now)) }
+    ensures rule { IfOk result (λ error. error.rule ≡ rule) }
+    ensures before { IfOk result (λ error. error.before ≡ before) }
 {
     let mut statements = Statements::of_readable(alloc, seed, files)?;
     let mut statement = Statement::empty(alloc);
@@ -179,7 +179,7 @@ pub(crate) fn read_breach<'a>(
         before,
         rule,
     )?;
-    Ok(Breach {
+    Ok(SemanticError {
         rule,
         before,
         statement,

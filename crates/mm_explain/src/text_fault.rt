@@ -14,7 +14,8 @@ ghost use Rattle.mm_explain.specs.Mirror.Last.{IsBegin, IsTextRefusal, TellsOrig
 ghost use Rattle.mm_explain.specs.Mirror.Last.{IsOpenBlock, is_of_text};
 ghost use Rattle.mm_rules.specs.declared.rule.Rule.TheVariants.{Text};
 ghost use Rattle.mm_explain.specs.TextFacts.{AreTextFacts, blocks_closed, closing_tokens, last_of};
-ghost use Rattle.mm_explain.specs.TextFacts.{blocks_opened};
+ghost use Rattle.mm_explain.specs.TextFacts.{blocks_opened, missing_facts, missing as missing_of};
+ghost use Rattle.mm_explain.specs.TextFacts.{is_labelled as is_labelled_of};
 ghost use Rattle.mm_explain.specs.TextFacts.{files_up_to as files_up_to_of, places_begun};
 ghost use Rattle.mm_explain.specs.TextFacts.{is_of_unclosed as is_of_unclosed_at};
 ghost use Rattle.mm_explain.specs.TextFacts.{unclosed_in as unclosed_in_of};
@@ -24,7 +25,7 @@ ghost use Rattle.mm_rules.specs.Verdict.{CanBeRead, text_refusal};
 use crate::conflict::OpenBlocks;
 use crate::place_lines::{push_begun, push_last_closed};
 use mm_base::{File, Kind, Seed, Statement, Token};
-use mm_facts::{push_block as push_opening, push_token};
+use mm_facts::{push_block as push_opening, push_missing_before, push_token};
 use mm_rules::{Refusal, Rule, bytes_before, bytes_from, bytes_of};
 use mm_text::{Passing, Statements, TextFault, TextRule, pass_all};
 use mm_verdict::is_space;
@@ -281,6 +282,52 @@ fn push_origins<'a>(
     }
 }
 
+/// Whether the token is the keyword of a statement that has a label.
+fn is_labelled(token: &[u8]) -> bool
+    ensures { result ≡ is_labelled_of token.now }
+{
+    token == b"$f".as_slice()
+        || token == b"$e".as_slice()
+        || token == b"$a".as_slice()
+        || token == b"$p".as_slice()
+}
+
+/// What is missing before the token at which the rule is broken, where the two tell that.
+fn missing(rule: TextRule, token: &[u8]) -> Option<&'static [u8]>
+    ensures { option_map (λ what. what.now) result ≡ missing_of rule token.now }
+{
+    match rule {
+        TextRule::S1 => {
+            if is_labelled(token) {
+                Some(b"a label")
+            } else {
+                None
+            }
+        }
+        TextRule::S4 => {
+            if token == b"$.".as_slice() {
+                Some(b"$=")
+            } else if token == b"$=".as_slice() {
+                None
+            } else {
+                Some(b"$.")
+            }
+        }
+        _ => None,
+    }
+}
+
+/// That fact.
+fn push_missing(out: &mut Vec<u8>, rule: TextRule, token: &[u8]) -> Result<(), AllocError>
+    ensures { OnOk result (out.new.items ≡ out.old.items
+        ++ details_text (missing_facts rule token.now)) }
+{
+    match missing(rule, token) {
+        Some(what) => push_missing_before(out, what),
+        None => Ok(()),
+    }
+}
+
 /// The facts that explain the refusal for a fault of the text, and the position that is reported.
 pub(crate) fn text_facts<'a>(
     alloc: Global,
@@ -295,7 +342,9 @@ pub(crate) fn text_facts<'a>(
 {
     let mut out = Vec::new(alloc);
     let bytes = bytes_of(files, refusal.file);
-    push_token(&mut out, token_from(bytes, refusal.at))?;
+    let token = token_from(bytes, refusal.at);
+    push_token(&mut out, token)?;
+    push_missing(&mut out, rule_in(refusal), token)?;
     push_origins(&mut out, alloc, seed, files, refusal)?;
     Ok((refusal.at, out))
 }

@@ -1,35 +1,32 @@
 //! `mm try`: whether a text proves a theorem, whatever proof its file has.
 
-ghost use Rattle.std.specs.Prelude.{◌≡◌, ◌≤◌, ℕ, List, length, take, IfOk, IfErr};
+ghost use Rattle.std.specs.Prelude.{◌≡◌, ◌≤◌, ℕ, length, map, take, IfOk, IfErr};
 ghost use Rattle.std.specs.List.{sum_by};
 ghost use Rattle.mm_base.specs.MostBytes.{most_bytes};
+ghost use Rattle.mm_base.specs.Token.{plain_token, tokens_from};
 ghost use Rattle.mm_text.specs.Files.{plain_file};
-ghost use Rattle.mm_code.specs.Layout.{texts};
 ghost use Rattle.mm_code.specs.Words.{tokens_in};
 ghost use Rattle.mm_frame.specs.Sentence.{Sentence};
 ghost use Rattle.mm_proof.specs.Answer.{OnRule};
-ghost use Rattle.mm_step.specs.declared.fault.ProofRule.{ProofRule};
-ghost use Rattle.mm_step.specs.declared.profile.Profile.{Profile};
 ghost use Rattle.mm_step.specs.declared.profile.Profile.TheVariants.{Lenient};
 ghost use Rattle.mm_proof.specs.Parsed.{OfProof, SaySteps};
+ghost use Rattle.mm_step.specs.Plain.{token_texts};
 ghost use Rattle.mm_step.specs.Steps.{AreSteps, IsProofNumber};
 ghost use Rattle.mm_proof.specs.Tokens.{is_incomplete};
 ghost use Rattle.mm_facts.specs.Explained.{judged_tokens};
 ghost use Rattle.mm_facts.specs.Explained.{IsTokensFault};
-ghost use Rattle.mm_facts.specs.Mirror.Explaining.{IsCauseOf};
 ghost use Rattle.mm_explain.specs.Mirror.Reached.{AreTried};
 ghost use Rattle.mm_explain.specs.Reply.{IsTokensReply, IsTriedFault, IsTriedPrefix, IsTryReply};
 ghost use Rattle.mm_rules.specs.Status.{number_of};
-ghost use Rattle.mm_explain.specs.Why.{IsTextPlace};
 
 use crate::why::push_head_at;
-use mm_base::File;
-use mm_facts::{Cause, cause_of, place_among, push_cause, push_left_over};
+use mm_base::{File, Token};
+use mm_facts::{cause_of, place_among, push_cause, push_left_over};
 use mm_frame::{Book, LabelId};
 use mm_proof::{Parsed, Proved, Steps, verify};
 use mm_rules::{AskRule, Rule, Status};
 use mm_step::{Flat, Profile, ProofFault, ProofRule};
-use mm_verdict::{Reply, ask_reply, handed_tokens, placed_tokens, refused_text, text_status};
+use mm_verdict::{Reply, ask_reply, handed_tokens, refused_text, text_status};
 use std::alloc::{AllocError, Global};
 
 /// The steps that the tokens say as a proof of the `$p` with the number, or that their known prefix
@@ -38,18 +35,20 @@ pub fn judged_steps(
     alloc: Global,
     book: &Book,
     id: LabelId,
-    tokens: &[&[u8]],
+    tokens: &[Token],
 ) -> Result<Steps, ProofFault>
     requires proof { (index : ℕ) × (s : Sentence) × IsProofNumber book.now.statements id.0 index s }
-    requires room { sum_by length (texts tokens.now) ≤ most_bytes }
+    requires room { sum_by length (token_texts tokens.now) ≤ most_bytes }
     ensures said { IfOk result (λ steps. OfProof book.now.statements id.0 (λ index s.
-        SaySteps book.now.statements index s (judged_tokens (texts tokens.now)) steps.moves)) }
+        SaySteps book.now.statements index s (judged_tokens (token_texts tokens.now))
+        steps.moves)) }
     ensures usable { IfOk result (λ steps. AreSteps book.now.statements id.0 steps.moves) }
-    ensures prefix { IfOk result (λ steps. steps.prefix ≡ is_incomplete (texts tokens.now)) }
+    ensures prefix { IfOk result (λ steps. steps.prefix ≡ is_incomplete (token_texts tokens.now)) }
     ensures profile { IfOk result (λ steps. steps.profile ≡ Lenient) }
     ensures fault { IfErr result (λ fault. OnRule fault (λ rule step. (step ≡ 0)
         × OfProof book.now.statements id.0 (λ index s.
-        IsTokensFault Lenient (take index book.now.statements) s (texts tokens.now) rule step))) }
+        IsTokensFault Lenient (take index book.now.statements) s (token_texts tokens.now) rule
+        step))) }
 {
     match Steps::parse(alloc, Profile::Lenient, book, id, tokens)? {
         Parsed::Steps(steps) => Ok(steps),
@@ -63,15 +62,16 @@ fn try_tokens(
     alloc: Global,
     book: &Book,
     id: LabelId,
-    tokens: &[&[u8]],
+    tokens: &[Token],
 ) -> Result<Proved, ProofFault>
     requires proof { (index : ℕ) × (s : Sentence) × IsProofNumber book.now.statements id.0 index s }
-    requires room { sum_by length (texts tokens.now) ≤ most_bytes }
+    requires room { sum_by length (token_texts tokens.now) ≤ most_bytes }
     ensures tried { IfOk result (λ proved. OfProof book.now.statements id.0 (λ index s.
-        AreTried (take index book.now.statements) s (texts tokens.now) proved)) }
+        AreTried (take index book.now.statements) s (token_texts tokens.now) proved)) }
     ensures fault { IfErr result (λ fault. OnRule fault (λ rule step.
         OfProof book.now.statements id.0 (λ index s.
-        IsTokensFault Lenient (take index book.now.statements) s (texts tokens.now) rule step))) }
+        IsTokensFault Lenient (take index book.now.statements) s (token_texts tokens.now) rule
+        step))) }
 {
     let steps = judged_steps(alloc, book, id, tokens)?;
     let _used = verify(alloc, Flat::new(alloc), book, id, &steps)?;
@@ -88,14 +88,14 @@ fn prefix_reply(
     alloc: Global,
     book: &Book,
     id: LabelId,
-    tokens: &[&[u8]],
+    tokens: &[Token],
 ) -> Result<Reply, AllocError>
     requires proof { (index : ℕ) × (s : Sentence) × IsProofNumber book.now.statements id.0 index s }
-    requires room { sum_by length (texts tokens.now) ≤ most_bytes }
+    requires room { sum_by length (token_texts tokens.now) ≤ most_bytes }
     requires tried { OfProof book.now.statements id.0 (λ index s.
-        AreTried (take index book.now.statements) s (texts tokens.now) Proved.Incomplete) }
+        AreTried (take index book.now.statements) s (token_texts tokens.now) Proved.Incomplete) }
     ensures { IfOk result (λ reply. OfProof book.now.statements id.0 (λ index s.
-        IsTriedPrefix (take index book.now.statements) s (texts tokens.now) reply.text.items
+        IsTriedPrefix (take index book.now.statements) s (token_texts tokens.now) reply.text.items
         (number_of reply.status))) }
 {
     let rule = Rule::Ask(AskRule::A3);
@@ -107,29 +107,6 @@ fn prefix_reply(
     })
 }
 
-/// The position of the first fault of the tokens of a text among its bytes, by its cause.
-fn place_in(
-    alloc: Global,
-    text: &[u8],
-    tokens: &[&[u8]],
-    cause: &Cause,
-) -> Result<usize, AllocError>
-    requires tokens { texts tokens.now ≡ tokens_in text.now }
-    requires size { length text.now ≤ most_bytes }
-    requires room { sum_by length (texts tokens.now) ≤ most_bytes }
-    requires cause { (profile : Profile) × (statements : List Sentence) × (id : ℕ) × (index : ℕ)
-        × (s : Sentence) × (rule : ProofRule) × (step : ℕ) × IsProofNumber statements id index s
-        × IsCauseOf profile statements id (texts tokens.now) rule step cause.now }
-    ensures { IfOk result (λ at. (profile : Profile) (statements : List Sentence) (id : ℕ)
-        (index : ℕ) (s : Sentence) (rule : ProofRule) (step : ℕ)
-        → IsProofNumber statements id index s
-        → IsCauseOf profile statements id (texts tokens.now) rule step cause.now
-        → IsTextPlace profile (take index statements) s text.now rule step at) }
-{
-    let placed = placed_tokens(alloc, text)?;
-    Ok(place_among(&placed, text.len(), tokens, cause))
-}
-
 /// The reply where the tokens of the text in a file have this first fault: the fault, and what
 /// explains it, with its place in that file.
 fn fault_reply(
@@ -137,15 +114,16 @@ fn fault_reply(
     book: &Book,
     id: LabelId,
     proof: &File,
-    tokens: &[&[u8]],
+    tokens: &[Token],
     fault: (ProofRule, usize),
 ) -> Result<Reply, AllocError>
     requires proof { (index : ℕ) × (s : Sentence) × IsProofNumber book.now.statements id.0 index s }
-    requires tokens { texts tokens.now ≡ tokens_in proof.now.bytes.now }
+    requires tokens { token_texts tokens.now ≡ tokens_in proof.now.bytes.now }
+    requires places { map plain_token tokens.now ≡ tokens_from 0 0 proof.now.bytes.now }
     requires size { length proof.now.bytes.now ≤ most_bytes }
-    requires room { sum_by length (texts tokens.now) ≤ most_bytes }
+    requires room { sum_by length (token_texts tokens.now) ≤ most_bytes }
     requires fault { OfProof book.now.statements id.0 (λ index s.
-        IsTokensFault Lenient (take index book.now.statements) s (texts tokens.now) fault.0
+        IsTokensFault Lenient (take index book.now.statements) s (token_texts tokens.now) fault.0
         fault.1) }
     ensures { IfOk result (λ reply. OfProof book.now.statements id.0 (λ index s.
         IsTriedFault (plain_file proof.now) (take index book.now.statements) s reply.text.items
@@ -154,7 +132,7 @@ fn fault_reply(
     let profile = Profile::Lenient;
     let rule = Rule::Proof(fault.0);
     let cause = cause_of(alloc, profile, book, id, tokens, fault)?;
-    let at = place_in(alloc, proof.bytes, tokens, &cause)?;
+    let at = place_among(tokens, proof.bytes.len(), &cause);
     let mut text = refused_text(alloc, rule, fault.1)?;
     push_head_at(&mut text, &[*proof], (0, at), (rule, fault.1), None)?;
     push_cause(&mut text, alloc, profile, book, id, &cause, fault.0)?;
@@ -170,12 +148,13 @@ fn tokens_reply(
     book: &Book,
     id: LabelId,
     proof: &File,
-    tokens: &[&[u8]],
+    tokens: &[Token],
 ) -> Result<Reply, AllocError>
     requires proof { (index : ℕ) × (s : Sentence) × IsProofNumber book.now.statements id.0 index s }
-    requires tokens { texts tokens.now ≡ tokens_in proof.now.bytes.now }
+    requires tokens { token_texts tokens.now ≡ tokens_in proof.now.bytes.now }
+    requires places { map plain_token tokens.now ≡ tokens_from 0 0 proof.now.bytes.now }
     requires size { length proof.now.bytes.now ≤ most_bytes }
-    requires room { sum_by length (texts tokens.now) ≤ most_bytes }
+    requires room { sum_by length (token_texts tokens.now) ≤ most_bytes }
     ensures { IfOk result (λ reply. OfProof book.now.statements id.0 (λ index s.
         IsTokensReply (plain_file proof.now) (take index book.now.statements) s reply.text.items
         (number_of reply.status))) }

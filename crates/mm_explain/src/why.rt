@@ -40,7 +40,7 @@ use mm_rules::{
     push_place,
 };
 use mm_step::{Profile, ProofRule};
-use mm_verdict::{Checked, conclude, first_status, judge_files, proof_of};
+use mm_verdict::{Checked, conclude, first_status, judge_files};
 use std::alloc::{AllocError, Global};
 
 /// How many faults of proofs are explained.
@@ -254,9 +254,8 @@ fn push_explanation<'a>(
 {
     let fault = fault_in(refusal);
     let id = last_number(book, statement);
-    let tokens = proof_of(alloc, statement)?;
-    let cause = cause_of(alloc, profile, book, id, &tokens, fault)?;
-    push_head(out, files, fault_place(statement, &tokens, &cause), refusal)?;
+    let cause = cause_of(alloc, profile, book, id, &statement.proof, fault)?;
+    push_head(out, files, fault_place(statement, &cause), refusal)?;
     push_cause(out, alloc, profile, book, id, &cause, fault.0)?;
     let place = (id, refusal.statement - 1);
     push_hypothesis_places(out, alloc, files, book, place, &cause, fault.0)?;
@@ -420,16 +419,19 @@ impl<'a> Reasons<'a> {
         push_more(&mut self.text, self.profile, more)
     }
 
-    /// Explains the fault that ended the run, and keeps it.
+    /// Explains the fault that ended the run before the others, and keeps it.
     fn tell_last(&mut self, seed: Seed, last: Refusal<'a>) -> Result<(), AllocError>
         requires { EndsRun (map plain_file self.old.files.now) (plain_refusal last) }
         ensures explained { OnOk result ((text : List ℕ)
             × IsLastExplanation (map plain_file self.old.files.now) (plain_refusal last.entry) text
-            × (self.new.text.items ≡ self.old.text.items ++ text)) }
+            × (self.new.text.items ≡ text ++ self.old.text.items)) }
         ensures kept { OnOk result (self.new.refusals.items
             ≡ self.old.refusals.items ++ last.entry ∷ []) }
     {
-        push_last(&mut self.text, self.alloc, seed, self.files, &last)?;
+        let mut text = Vec::new(self.alloc);
+        push_last(&mut text, self.alloc, seed, self.files, &last)?;
+        text.extend_from_slice(&self.text)?;
+        self.text = text;
         self.keep(last)
     }
 

@@ -1,7 +1,7 @@
 -- What the hypotheses of an assertion ask, one after the other, and the entries that there are.
 use Rattle.std.proofs.Common.{◌≡◌, ℕ, zero, suc, ◌+◌, ◌<◌, List, [], ◌∷◌, ◌++◌, length, take, drop, map}
 use Rattle.std.proofs.Common.{get_or, slice_get, Bool, true, false, Option, Some, refl, ap, sym, subst, ◌∙◌, unwrap_or}
-use Rattle.std.proofs.Common.{append_assoc, append-nil, arith, ◌⊎◌, inl, inr, length-append}
+use Rattle.std.proofs.Common.{append_assoc, arith, ◌⊎◌, inl, inr, length-append}
 use Rattle.std.specs.Prelude.{◌==◌}
 use Rattle.std.specs.List.{AllZip}
 use Rattle.std.proofs.Math.Seq.{drop-append_seam}
@@ -22,7 +22,8 @@ use Rattle.mm_proof.specs.Asked.{AsksFor}
 use Rattle.mm_step.proofs.ByNumbers.NumberedSymbols.{drop_get}
 use Rattle.mm_rules.specs.Answer.{labels_at}
 use Rattle.mm_facts.specs.Explained.{Detail, detail_text, details_text, hypothesis_asks}
-use Rattle.mm_facts.specs.Mirror.Explaining.{AskedSoFar}
+use Rattle.mm_facts.specs.Explained.{is_unmet}
+use Rattle.mm_facts.specs.Mirror.Explaining.{AskedSoFar, AskedFacts, TurnFacts, is_told}
 use Rattle.mm_rules.proofs.Numbers.{names_at}
 use Rattle.mm_facts.proofs.HaltDetails.{StepLeft, step_left, broken_step, frame_names}
 use Rattle.mm_facts.specs.Mirror.Explaining.{IsHaltOf}
@@ -38,7 +39,12 @@ use Rattle.mm_listing.specs.declared.halt.HaltAt.TheVariants as at
 use Rattle.mm_step.specs.Mirror.CodeVerify.{AreHypothesesOf}
 use Rattle.mm_step.specs.Stores.{entries_in, numbers_in}
 use Rattle.mm_step.specs.Steps.{IsNumberedMove}
-use Rattle.mm_step.proofs.ProofSteps.OneStep.{one_names}
+use Rattle.mm_step.proofs.ProofSteps.OneStep.{one_names, agree, same_substituted}
+use Rattle.mm_step.specs.Substitution.{instance_of}
+use Rattle.mm_facts.proofs.DetailTexts.{all_same}
+use Rattle.mm_base.proofs.Lists.{get_within}
+use Rattle.std.specs.Prelude.{filter, not}
+use Rattle.std.proofs.lemmas.List.Elements.{filter-append}
 use Rattle.mm_step.proofs.ByNumbers.NumberedSymbols.{as_many}
 use Rattle.mm_step.specs.Steps.{IsProofNumber}
 use Rattle.mm_proof.specs.Parsed.{OfProof}
@@ -80,7 +86,7 @@ zip_from {X} {Y} R (x ∷ xs) (y ∷ ys) count each =
 pub entries_zip : (limit : ℕ) (st before : List Sentence) (s : Sentence) (prefix : Bool)
     (moves : List (Move (List ℕ))) (halt : Halt) (h : HaltsProof limit st before s prefix moves halt)
     (label : List ℕ) (m : MeetsHypotheses before h.there.stack label) (base : ℕ) (es : List (List ℕ))
-    → base ≡ length m.rest → base + length es ≡ length halt.makers.items
+    → base ≡ length m.rest → base + length es ≡ length halt.origins.items
     → ((k : ℕ) (numbers : List ℕ) → slice_get es k ≡ Some numbers → TellsEntry halt (base + k) numbers)
     → AllZip (AreNumbers st) es m.entries
 entries_zip limit st before s prefix moves halt h label m base es is count tells =
@@ -89,38 +95,46 @@ entries_zip limit st before s prefix moves halt h label m base es is count tells
     ∙ drop-append_seam m.rest m.entries in
     let whole = stack_parts before h.there.stack label m in
     let paired = m.paired in
-    let makers : length halt.makers.items ≡ length h.there.stack = ap length h.same_makers ∙ h.there.made.count in
+    let origins : length halt.origins.items ≡ length h.there.stack = ap length h.same_origins ∙ h.there.made.count in
     zip_from (AreNumbers st) es m.entries (omega arith) (λ k numbers there.
     let entry = tells k numbers there limit st before s prefix moves h in
     (entry.0, ap (λ (all : List Expression). slice_get all k) (sym lower) ∙ drop_get h.there.stack base k ∙ entry.1, entry.2))
 
 -- one hypothesis more
-pub one_asked : (st before : List Sentence) (stack : List Expression) (makers : List ℕ)
+pub one_asked : (st before : List Sentence) (stack : List Expression) (origins : List ℕ)
     (label : List ℕ) (m : MeetsHypotheses before stack label) (k : ℕ) (old o₁ o₂ : List ℕ)
     (hypothesis : Sentence) (text : List ℕ) (number : ℕ) (given e : Expression)
-    (asked_numbers given_numbers : List ℕ)
-    → AskedSoFar before stack makers label m k old o₁
+    (asked_numbers given_numbers : List ℕ) (unmet : Bool)
+    → AskedSoFar unmet before stack origins label m k old o₁
     → slice_get m.hypotheses k ≡ Some hypothesis → IsLabelled text hypothesis
-    → slice_get makers (length m.rest + k) ≡ Some number → slice_get m.entries k ≡ Some given
+    → slice_get origins (length m.rest + k) ≡ Some number → slice_get m.entries k ≡ Some given
     → AsksFor before stack label k e → AreNumbers st asked_numbers e → AreNumbers st given_numbers given
-    → o₂ ≡ o₁ ++ detail_text (hypothesis_asks text (labels_at (symbols_of st) asked_numbers) number
-    (labels_at (symbols_of st) given_numbers))
-    → AskedSoFar before stack makers label m (k + 1) old o₂
-one_asked st before stack makers label m k old o₁ o₂ hypothesis text number given e asked_numbers given_numbers so_far there labelled maker entry asks are_asked are_given told =
+    → o₂ ≡ o₁ ++ details_text (filter (is_told unmet) (hypothesis_asks text
+    (labels_at (symbols_of st) asked_numbers) number (labels_at (symbols_of st) given_numbers) ∷
+    []))
+    → AskedSoFar unmet before stack origins label m (k + 1) old o₂
+one_asked st before stack origins label m k old o₁ o₂ hypothesis text number given e asked_numbers
+    given_numbers unmet so_far there labelled origin entry asks are_asked are_given told =
     let d : Detail = hypothesis_asks (unwrap_or hypothesis.label []) e number given in
     let asked_named : labels_at (symbols_of st) asked_numbers ≡ e = names_at (symbols_of st) asked_numbers e are_asked in
     let given_named : labels_at (symbols_of st) given_numbers ≡ given = names_at (symbols_of st) given_numbers given are_given in
     let its : text ≡ unwrap_or hypothesis.label [] = ap (λ (o : Option (List ℕ)). unwrap_or o []) (sym labelled) in
-    let whole : details_text (so_far.details ++ d ∷ []) ≡ details_text so_far.details ++ details_text (d ∷ []) = simp flat_map-append in
+    let those : List Detail → List ℕ = λ ds. details_text (filter (is_told unmet) ds) in
+    let one : List ℕ → Expression → Expression → List ℕ = λ l f g. o₁ ++ those (hypothesis_asks l f
+    number g ∷ []) in
+    let whole : those (so_far.details ++ d ∷ []) ≡ those so_far.details ++ those (d ∷ []) =
+    ap (λ ds. details_text ds) (filter-append (is_told unmet) so_far.details (d ∷ []))
+    ∙ flat_map-append detail_text (filter (is_told unmet) so_far.details) (filter (is_told unmet)
+    (d ∷ [])) in
     let counted = so_far.counted in
     record {
       details = so_far.details ++ d ∷ [];
-      told = told ∙ ap (λ (f : Expression). o₁ ++ detail_text (hypothesis_asks text f number (labels_at (symbols_of st) given_numbers))) asked_named
-          ∙ ap (λ (f : Expression). o₁ ++ detail_text (hypothesis_asks text e number f)) given_named
-          ∙ ap (λ (l : List ℕ). o₁ ++ detail_text (hypothesis_asks l e number given)) its
-          ∙ ap (λ (o : List ℕ). o ++ detail_text d) so_far.told
-          ∙ append_assoc old (details_text so_far.details) (detail_text d)
-          ∙ ap (λ (o : List ℕ). old ++ (details_text so_far.details ++ o)) (sym (append-nil (detail_text d)))
+      told = told ∙ ap (λ (f : Expression). one text f (labels_at (symbols_of st) given_numbers))
+          asked_named
+          ∙ ap (λ (f : Expression). one text e f) given_named
+          ∙ ap (λ (l : List ℕ). one l e given) its
+          ∙ ap (λ (o : List ℕ). o ++ those (d ∷ [])) so_far.told
+          ∙ append_assoc old (those so_far.details) (those (d ∷ []))
           ∙ ap (λ (o : List ℕ). old ++ o) (sym whole);
       counted = (let own : length (d ∷ []) ≡ 1 = refl in omega (arith, length-append so_far.details (d ∷ [])));
       each = λ i h f n less at_h at_f at_n. go i (i == k) refl h f n less at_h at_f at_n;
@@ -131,13 +145,13 @@ one_asked st before stack makers label m k old o₁ o₂ hypothesis text number 
 
     own : (i : ℕ) → k ≡ i → (h : Sentence) (f : Expression) (n : ℕ)
         → slice_get m.hypotheses i ≡ Some h → slice_get m.entries i ≡ Some f
-        → slice_get makers (length m.rest + i) ≡ Some n
+        → slice_get origins (length m.rest + i) ≡ Some n
         → (asked : Expression) × AsksFor before stack label i asked
         × (slice_get (so_far.details ++ last ∷ []) i ≡ Some (hypothesis_asks (unwrap_or h.label []) asked n f))
     own i is h f n at_h at_f at_n =
         let same_h : hypothesis ≡ h = same_Some hypothesis h (sym there ∙ ap (slice_get m.hypotheses) is ∙ at_h) in
         let same_f : given ≡ f = same_Some given f (sym entry ∙ ap (slice_get m.entries) is ∙ at_f) in
-        let same_n : number ≡ n = same_Some number n (sym maker ∙ ap (λ (j : ℕ). slice_get makers (length m.rest + j)) is ∙ at_n) in
+        let same_n : number ≡ n = same_Some number n (sym origin ∙ ap (λ (j : ℕ). slice_get origins (length m.rest + j)) is ∙ at_n) in
         let place : i ≡ length so_far.details = sym is ∙ sym so_far.counted in (
           e,
           subst (λ (j : ℕ). AsksFor before stack label j e) is asks,
@@ -149,7 +163,7 @@ one_asked st before stack makers label m k old o₁ o₂ hypothesis text number 
 
     go : (i : ℕ) (b : Bool) → (i == k) ≡ b → (h : Sentence) (f : Expression) (n : ℕ) → i < k + 1
         → slice_get m.hypotheses i ≡ Some h → slice_get m.entries i ≡ Some f
-        → slice_get makers (length m.rest + i) ≡ Some n
+        → slice_get origins (length m.rest + i) ≡ Some n
         → (asked : Expression) × AsksFor before stack label i asked
         × (slice_get (so_far.details ++ last ∷ []) i ≡ Some (hypothesis_asks (unwrap_or h.label []) asked n f))
     go i true is h f n less at_h at_f at_n =
@@ -182,7 +196,7 @@ pub record Sizes (st before : List Sentence) (halt : Halt) (stack : List Express
   pub numbered : AreHypothesesOf st (map (λ h. h.id.0) xs) m.hypotheses
   pub hypotheses : length m.hypotheses ≡ length xs
   pub entries : length m.entries ≡ length xs
-  pub makers : length halt.makers.items ≡ length m.rest + length xs
+  pub origins : length halt.origins.items ≡ length m.rest + length xs
 
 pub sizes : (limit : ℕ) (st : List Sentence) (index : ℕ) (s : Sentence) (prefix : Bool)
     (moves : List (Move (List ℕ))) (halt : Halt)
@@ -205,12 +219,12 @@ sizes limit st index s prefix moves halt h all id frame same a numbered kind xs 
     subst (AreHypothesesOf st (map (λ h. h.id.0) xs)) (sym its) are.numbered in
     let many : length m.hypotheses ≡ length xs = as_many st xs m.hypotheses own in
     let whole = stack_parts (take index st) h.there.stack label m in
-    let makers : length halt.makers.items ≡ length h.there.stack = ap length h.same_makers ∙ h.there.made.count in
+    let origins : length halt.origins.items ≡ length h.there.stack = ap length h.same_origins ∙ h.there.made.count in
     record {
       numbered = own;
       hypotheses = many;
       entries = m.paired ∙ many;
-      makers = omega arith;
+      origins = omega arith;
     }
 
 -- the entry at an index, by its numbers
@@ -248,16 +262,91 @@ entry_pushed halt base index es new e is count before last = (
 
 -- ---- all of them
 
-pub so_far_all : (before : List Sentence) (stack : List Expression) (makers : List ℕ) (label : List ℕ)
+pub so_far_all : (unmet : Bool) (before : List Sentence) (stack : List Expression) (origins : List
+    ℕ) (label : List ℕ)
     (m : MeetsHypotheses before stack label) (k : ℕ) (old new : List ℕ)
-    → (so_far : AskedSoFar before stack makers label m k old new) → length m.hypotheses ≡ k
-    → AreAsked before stack makers label so_far.details
-so_far_all before stack makers label m k old new so_far count = record {
+    → (so_far : AskedSoFar unmet before stack origins label m k old new) → length m.hypotheses ≡ k
+    → AreAsked before stack origins label so_far.details
+so_far_all unmet before stack origins label m k old new so_far count = record {
   met = m;
   count = so_far.counted ∙ sym count;
   each = λ i h f n at_h at_f at_n.
       so_far.each i h f n (let within = slice_get_within m.hypotheses i h at_h in omega arith) at_h at_f at_n;
 }
+
+-- a hypothesis asks one thing only
+asked_once : (before : List Sentence) (stack : List Expression) (label : List ℕ) → AllMeant before
+    → (i : ℕ) (e f : Expression) → AsksFor before stack label i e → AsksFor before stack label i f
+    → e ≡ f
+asked_once before stack label all i e f (m, h, at, is) (n, g, there, made) =
+    let z = agree before stack label all m n in
+    let same : h ≡ g = same_Some h g (sym at ∙ ap (λ (hs : List Sentence). slice_get hs i)
+    z.hypotheses ∙ there) in
+    is ∙ ap (λ (s : Sentence). instance_of m.σ s.symbols) same
+    ∙ same_substituted m.σ n.σ g.symbols z.replacement ∙ sym made
+
+-- and so these facts are the same
+asked_details_once : (before : List Sentence) (stack : List Expression) (origins : List ℕ) (label :
+    List ℕ)
+    → AllMeant before → length origins ≡ length stack → (ds es : List Detail)
+    → AreAsked before stack origins label ds → AreAsked before stack origins label es → ds ≡ es
+asked_details_once before stack origins label all count ds es a b =
+    let z = agree before stack label all a.met b.met in
+    let many = a.count in
+    let paired = a.met.paired in
+    let whole = stack_parts before stack label a.met in
+    all_same ds es (a.count ∙ ap length z.hypotheses ∙ sym b.count) (λ i less.
+    let h = get_within a.met.hypotheses i (omega arith) in
+    let f = get_within a.met.entries i (omega arith) in
+    let n = get_within origins (length a.met.rest + i) (omega arith) in
+    let x = a.each i h.0 f.0 n.0 h.1 f.1 n.1 in
+    let y = b.each i h.0 f.0 n.0 (ap (λ (hs : List Sentence). slice_get hs i) (sym z.hypotheses) ∙
+    h.1)
+    (ap (λ (fs : List Expression). slice_get fs i) (sym z.entries) ∙ f.1)
+    (ap (λ (r : List Expression). slice_get origins (length r + i)) (sym z.rest) ∙ n.1) in
+    x.2 ∙ ap (λ (e : Expression). Some (hypothesis_asks (unwrap_or h.0.label []) e n.0 f.0))
+    (asked_once before stack label all i x.0 y.0 x.1 y.1) ∙ sym y.2)
+
+-- those of the hypotheses that aren't met, and then the others
+pub turn_told : (before : List Sentence) (s : Sentence) (stack kept : List Expression) (origins :
+    List ℕ)
+    (left : List (Move (List ℕ))) → AllMeant before → length origins ≡ length stack
+    → (first second : List Detail) (old o₁ o₂ : List ℕ)
+    → AskedFacts true before s stack kept origins left first → o₁ ≡ old ++ details_text first
+    → AskedFacts false before s stack kept origins left second → o₂ ≡ o₁ ++ details_text second
+    → (details : List Detail) × TurnFacts before s stack kept origins left details
+    × (o₂ ≡ old ++ details_text details)
+turn_told before s stack kept origins left all count first second old o₁ o₂ (
+  label,
+  more,
+  is,
+  ds,
+  asked,
+  told,
+) h₁ (label', more', is', es, asked', told') h₂ =
+    let both : name label' ∷ more' ≡ name label ∷ more = sym is' ∙ is in
+    let named : label' ≡ label = cc in
+    let same : es ≡ ds =
+    asked_details_once before stack origins label all count es ds (subst (λ (l : List ℕ). AreAsked
+    before stack origins l es) named asked') asked in
+    let others : second ≡ filter (λ d. not (is_unmet d)) ds = told' ∙ ap (λ (xs : List Detail).
+    filter (λ d. not (is_unmet d)) xs) same in (
+      first ++ second,
+      (
+        label,
+        more,
+        is,
+        (
+          ds,
+          asked,
+          ap (λ (xs : List Detail). xs ++ second) told ∙ ap (λ (xs : List
+              Detail). filter is_unmet ds ++ xs) others,
+        ),
+      ),
+      h₂ ∙ ap (λ (o : List ℕ). o ++ details_text second) h₁
+          ∙ append_assoc old (details_text first) (details_text second)
+          ∙ ap (λ (o : List ℕ). old ++ o) (sym (flat_map-append detail_text first second)),
+    )
 
 -- what holds of the `$p` at its own index holds of it
 pub of_own : (st : List Sentence) (id index : ℕ) (s : Sentence) → IsProofNumber st id index s

@@ -2,6 +2,8 @@
 use Rattle.std.proofs.Common.{◌≡◌, ◌≢◌, ℕ, zero, suc, ◌+◌, ◌<◌, ◌≤◌, List, [], ◌∷◌, ◌++◌, length}
 use Rattle.std.proofs.Common.{get_or, slice_get, Bool, true, false, Option, Some, None, IfSome, refl}
 use Rattle.std.proofs.Common.{ap, sym, subst, ◌∙◌, append_assoc, arith, codes, option_map, unwrap_or, decimal}
+use Rattle.std.proofs.Common.{append-nil}
+use Rattle.std.specs.Prelude.{filter}
 use Rattle.std.specs.List.{AllByRecursion}
 use Rattle.std.specs.Prelude.{if◌then◌else◌, ◌==◌, nat_lt, min}
 use Rattle.std.proofs.lemmas.Bool.Decides.{nat_tests}
@@ -18,7 +20,8 @@ use Rattle.mm_rules.specs.Answer.{labels_at}
 use Rattle.mm_frame.proofs.Names.LabelNumbers.{one_number_holds}
 use Rattle.mm_facts.specs.Explained.{symbol_at, difference, expression_line, difference_line}
 use Rattle.mm_facts.specs.Explained.{but_given_text, asks_text, detail_text, hypothesis_asks}
-use Rattle.mm_facts.specs.Explained.{mark_text}
+use Rattle.mm_facts.specs.Explained.{mark_text, is_alone, replacements_text, Detail, details_text}
+use Rattle.mm_facts.specs.Mirror.Explaining.{is_told}
 
 -- ---- parts, one behind the other
 
@@ -37,6 +40,19 @@ five_parts out a b c d e o₁ o₂ o₃ h₁ h₂ h₃ = rw (h₃, h₂, h₁) (
 pub mark_parts : (out a b c d e o₁ o₂ o₃ : List ℕ) → o₁ ≡ out ++ a → o₂ ≡ o₁ ++ b
     → o₃ ≡ o₂ ++ (c ++ d ++ e) → o₃ ≡ out ++ (a ++ b ++ c ++ d ++ e)
 mark_parts out a b c d e o₁ o₂ o₃ h₁ h₂ h₃ = rw (h₃, h₂, h₁) (simp append_assoc)
+
+-- the type that a hypothesis asks for, and what it gets
+pub type_parts : (out a l b c s n g y z o₁ o₂ o₃ o₄ o₅ : List ℕ) → o₁ ≡ out ++ (a ++ l ++ b)
+    → o₂ ≡ o₁ ++ ([] ++ c ++ s) → o₃ ≡ o₂ ++ ([] ++ n ++ g) → o₄ ≡ o₃ ++ y → o₅ ≡ o₄ ++ z
+    → o₅ ≡ out ++ (a ++ l ++ b ++ c ++ s ++ n ++ g ++ y ++ z)
+type_parts out a l b c s n g y z o₁ o₂ o₃ o₄ o₅ h₁ h₂ h₃ h₄ h₅ =
+    rw (h₅, h₄, h₃, h₂, h₁) (simp append_assoc)
+
+-- the types of all
+pub types_parts : (out a b c d e o₁ o₂ o₃ o₄ o₅ : List ℕ) → o₁ ≡ out ++ a → o₂ ≡ o₁ ++ b
+    → o₃ ≡ o₂ ++ c → o₄ ≡ o₃ ++ d → o₅ ≡ o₄ ++ e → o₅ ≡ out ++ (a ++ b ++ c ++ d ++ e)
+types_parts out a b c d e o₁ o₂ o₃ o₄ o₅ h₁ h₂ h₃ h₄ h₅ =
+    rw (h₅, h₄, h₃, h₂, h₁) (simp append_assoc)
 
 -- the number of a mark, where it is told and where it isn't
 pub mark_told : (index : ℕ) → index < 999999999 → mark_text (index + 1) ≡ decimal (index + 1)
@@ -232,12 +248,45 @@ pub apart_parts : (out a x s y b o₁ o₂ : List ℕ) → o₁ ≡ out ++ (a ++
     → o₂ ≡ o₁ ++ ([] ++ y ++ b) → o₂ ≡ out ++ (a ++ x ++ s ++ y ++ b)
 apart_parts out a x s y b o₁ o₂ h₁ h₂ = rw (h₂, h₁) (simp append_assoc)
 
-pub pair_parts : (out a x s y b is e also f o₁ o₂ o₃ o₄ : List ℕ)
-    → o₁ ≡ out ++ (a ++ x ++ s ++ y ++ b) → o₂ ≡ o₁ ++ (x ++ is ++ e) → o₃ ≡ o₂ ++ also
-    → o₄ ≡ o₃ ++ (y ++ is ++ f)
-    → o₄ ≡ out ++ (a ++ x ++ s ++ y ++ b ++ x ++ is ++ e ++ also ++ y ++ is ++ f)
-pair_parts out a x s y b is e also f o₁ o₂ o₃ o₄ h₁ h₂ h₃ h₄ =
-    rw (h₄, h₃, h₂, h₁) (simp append_assoc)
+pub pair_parts : (out a x s y b r o₁ o₂ : List ℕ) → o₁ ≡ out ++ (a ++ x ++ s ++ y ++ b)
+    → o₂ ≡ o₁ ++ r → o₂ ≡ out ++ (a ++ x ++ s ++ y ++ b ++ r)
+pair_parts out a x s y b r o₁ o₂ h₁ h₂ = rw (h₂, h₁) (simp append_assoc)
+
+pub four_parts : (out a b c d o₁ o₂ o₃ o₄ : List ℕ) → o₁ ≡ out ++ a → o₂ ≡ o₁ ++ b → o₃ ≡ o₂ ++ c
+    → o₄ ≡ o₃ ++ d → o₄ ≡ out ++ (a ++ b ++ c ++ d)
+four_parts out a b c d o₁ o₂ o₃ o₄ h₁ h₂ h₃ h₄ = rw (h₄, h₃, h₂, h₁) (simp append_assoc)
+
+-- an expression of more than one symbol is no variable alone
+pub not_alone : (x : List ℕ) (names : List (List ℕ)) (symbols : List Sym)
+    → AllByRecursion (λ n. n < length names) (numbers_in symbols) → 2 ≤ length symbols
+    → false ≡ is_alone x (labels_at names (numbers_in symbols))
+not_alone x names [] within long = absurd (omega arith)
+not_alone x names (s ∷ []) within long = absurd (omega arith)
+not_alone x names (s ∷ t ∷ symbols) within long =
+    let a = get_within names s.0 within.0 in
+    let b = get_within names t.0 within.1.0 in
+    sym (ap (is_alone x) (first_label names s.0 (t.0 ∷ numbers_in symbols) a.0 a.1)
+    ∙ ap (λ (e : List (List ℕ)). is_alone x (a.0 ∷ e)) (first_label names t.0 (numbers_in symbols)
+    b.0 b.1))
+
+-- what is known of whether they are alone is what is told
+pub alone_told : (x y : List ℕ) (e f : List (List ℕ)) (p q : Bool) → is_alone x e ≡ p → is_alone y
+    f ≡ q
+    → replacements_text x y e f p q ≡ replacements_text x y e f (is_alone x e) (is_alone y f)
+alone_told x y e f p q h k =
+    sym (ap (λ (b : Bool). replacements_text x y e f b (is_alone y f)) h ∙ ap (replacements_text x
+    y e f p) k)
+
+-- ---- hypotheses that aren't met, or are
+
+pub not_asked : (out : List ℕ) (unmet : Bool) (d : Detail) → is_told unmet d ≡ false
+    → out ≡ out ++ details_text (filter (is_told unmet) (d ∷ []))
+not_asked out unmet d other = rw other (sym (append-nil out))
+
+pub are_asked : (out o₁ : List ℕ) (unmet : Bool) (d : Detail) → is_told unmet d ≡ true
+    → o₁ ≡ out ++ detail_text d → o₁ ≡ out ++ details_text (filter (is_told unmet) (d ∷ []))
+are_asked out o₁ unmet d same h = rw same (h ∙ ap (λ (t : List ℕ). out ++ t) (sym (append-nil
+    (detail_text d))))
 
 pub ruleset named = (symbol_named, nothing_named)
 
@@ -258,7 +307,7 @@ one_same e f k d c before in_e in_f same i less = go (i == k) refl
     go false is = before i (grind (arith, nat_tests))
 
 -- all are the same
-pub all_same : (ns ms : List ℕ) → length ns ≡ length ms
+pub all_same : {X : Type 0} (ns ms : List X) → length ns ≡ length ms
     → ((i : ℕ) → i < length ns → slice_get ns i ≡ slice_get ms i) → ns ≡ ms
 all_same [] [] count same = refl
 all_same [] (m ∷ ms) count same = absurd (omega arith)

@@ -4,7 +4,7 @@ use Rattle.std.proofs.Common.{◌≡◌, ℕ, ◌+◌, ◌<◌, ◌≤◌, List,
 use Rattle.std.proofs.Common.{length, slice_get, get_or, Option, Some, None, Bool, true, false}
 use Rattle.std.proofs.Common.{inr, refl, sym, ap, subst, ◌∙◌, arith, option_map}
 use Rattle.std.specs.List.{sum_by}
-use Rattle.std.proofs.lemmas.List.{length-append}
+use Rattle.std.proofs.lemmas.List.{length-append, length-map}
 use Rattle.std.proofs.lemmas.List.Sums.{get_or-le-sum_by}
 use Rattle.std.proofs.lemmas.Option.{slice_get_within, slice_get-map, slice_get-get_or, none-some}
 use Rattle.std.proofs.lemmas.Option.{get_or_from_slice_get}
@@ -21,8 +21,9 @@ use Rattle.mm_listing.specs.declared.halt.Halt.{Halt}
 use Rattle.mm_listing.specs.declared.halt.HaltAt.{HaltAt}
 use Rattle.mm_listing.specs.declared.halt.HaltAt.TheVariants as at
 use Rattle.mm_step.specs.Moves.{Move, steps_in}
+use Rattle.mm_step.specs.Plain.{token_texts}
 use Rattle.mm_proof.specs.Tokens.{is_incomplete, SayMoves}
-use Rattle.mm_proof.specs.KnownPrefix.{known_prefix}
+use Rattle.mm_proof.specs.CheckedPrefix.{checked_prefix}
 use Rattle.mm_places.specs.Places.{IsMovePlace}
 use Rattle.mm_listing.specs.Halted.{StandsAtHalt}
 use Rattle.mm_places.proofs.ProofPlaces.WholePlaces.{move_within}
@@ -37,23 +38,25 @@ use Rattle.mm_facts.proofs.TokenHalts.{halt_caused, fault_caused}
 -- ---- a move stands within its token
 
 -- its index is that of a token, and its byte is within all bytes
-pub token_fits : (tokens : List (List ℕ)) (texts : List (List ℕ)) (token byte : ℕ)
-    (text : List ℕ) → texts ≡ tokens → sum_by length texts ≤ most_bytes
-    → slice_get texts token ≡ Some text → byte ≤ length text
+pub token_fits : (tokens : List Token) (token byte : ℕ) (text : List ℕ)
+    → sum_by length (token_texts tokens) ≤ most_bytes
+    → slice_get (token_texts tokens) token ≡ Some text → byte ≤ length text
     → (token < length tokens) × (byte ≤ most_bytes)
-token_fits tokens texts token byte text same room there within =
+token_fits tokens token byte text room there within =
+    let texts : List (List ℕ) = token_texts tokens in
     let less = slice_get_within texts token text there in
     let is : get_or texts token [] ≡ text = get_or_from_slice_get texts token text [] there in (
-      omega (arith, less, ap length same),
+      omega (arith, less, length-map tokens (λ t. t.text.now)),
       omega (arith, get_or-le-sum_by length texts token [] less, ap length is),
     )
 
-pub place_fits : (tokens : List (List ℕ)) (texts : List (List ℕ)) (number token byte : ℕ)
-    → texts ≡ tokens → sum_by length texts ≤ most_bytes → IsMovePlace texts number token byte
+pub place_fits : (tokens : List Token) (number token byte : ℕ)
+    → sum_by length (token_texts tokens) ≤ most_bytes
+    → IsMovePlace (token_texts tokens) number token byte
     → (token < length tokens) × (byte ≤ most_bytes)
-place_fits tokens texts number token byte same room place =
-    let (text, there, within) = move_within texts number token byte place in
-    token_fits tokens texts token byte text same room there within
+place_fits tokens number token byte room place =
+    let (text, there, within) = move_within (token_texts tokens) number token byte place in
+    token_fits tokens token byte text room there within
 
 -- ---- the position of a byte of a token
 
@@ -118,7 +121,7 @@ pub never_none : (tokens : List (List ℕ)) (number : ℕ) (found : Option (ℕ 
     → SayMoves before s tokens moves → number < length moves
     → (token : ℕ) × (byte : ℕ) × (found ≡ Some (token, byte)))
     → ((before : List Sentence) → (s : Sentence) → (moves : List (Move (List ℕ)))
-    → SayMoves before s (known_prefix tokens) moves → number < length moves
+    → SayMoves before s (checked_prefix tokens) moves → number < length moves
     → (token : ℕ) × (byte : ℕ) × (found ≡ Some (token, byte)))
     → (before : List Sentence) (s : Sentence) (moves : List (Move (List ℕ)))
     → SayMoves before s (judged_tokens tokens) moves → number < length moves → ⊥

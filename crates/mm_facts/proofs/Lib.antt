@@ -2,8 +2,9 @@ pub mod DetailTexts
 pub mod HaltDetails
 pub mod TokenHalts
 pub mod AskedDetails
+pub mod WrongTypes
 pub mod LackingDetails
-pub mod ApartDetails
+pub mod DisjointDetails
 pub mod PairsAsked
 pub mod FaultPlaces
 pub mod Scripts

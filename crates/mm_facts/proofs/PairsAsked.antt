@@ -85,7 +85,7 @@ apart_meets limit st before s prefix moves halt h id step rule is (inr r) =
     (broken_step limit st before s prefix moves halt h id step P12 (is ∙ ap Some r)).0
 
 -- what is known of its entries, and of its mandatory pairs
-pub record ApartStep (st before : List Sentence) (stack : List Expression) (label : List ℕ)
+pub record DisjointStep (st before : List Sentence) (stack : List Expression) (label : List ℕ)
     (m : MeetsHypotheses before stack label) (count : ℕ) (es : List (List ℕ))
     (ps : List DistinctPair) : Type 0 where
   pub zip : AllZip (AreNumbers st) es m.entries
@@ -104,10 +104,10 @@ pub apart_step : (limit : ℕ) (st : List Sentence) (index : ℕ) (s : Sentence)
     → AreHypotheses frame (map (λ h. h.id.0) xs) → (ps : List DistinctPair) → ArePairs frame (pairs_in ps)
     → HaveMandatoryIndices frame ps → (label : List ℕ)
     → IsNumberedMove st (name id) (name label) → (m : MeetsHypotheses (take index st) h.there.stack label)
-    → (base : ℕ) → base + length xs ≡ length halt.makers.items → (es : List (List ℕ))
-    → base + length es ≡ length halt.makers.items
+    → (base : ℕ) → base + length xs ≡ length halt.origins.items → (es : List (List ℕ))
+    → base + length es ≡ length halt.origins.items
     → ((k : ℕ) (numbers : List ℕ) → slice_get es k ≡ Some numbers → TellsEntry halt (base + k) numbers)
-    → ApartStep st (take index st) h.there.stack label m (length xs) es ps
+    → DisjointStep st (take index st) h.there.stack label m (length xs) es ps
 apart_step limit st index s prefix moves halt h all id frame same a numbered kind xs ids ps pairs indices label move m base sum es count tells =
     let at = frame.index in
     let frame_is : frame ≡ record { statements = st; index = at } =
@@ -116,7 +116,7 @@ apart_step limit st index s prefix moves halt h all id frame same a numbered kin
     let z = sizes limit st index s prefix moves halt h all id frame same a numbered kind xs ids label move m in
     let z' = sizes limit st index s prefix moves halt h all id frame same a numbered kind indices.0 indices.1 label move m in
     let typed = subst (λ ss. HaveTypings ss indices.0) same indices.2 in
-    let makers = z.makers in
+    let origins = z.origins in
     let many = z.hypotheses in
     let others = z'.hypotheses in
     let counted = variables_counted indices.0 in

@@ -12,7 +12,7 @@ use Rattle.mm_step.specs.Moves.{Move, steps_in}
 use Rattle.mm_proof.specs.Tokens.{is_incomplete, SayMoves}
 use Rattle.mm_step.specs.Proof.{IsWithin, Passed}
 use Rattle.mm_proof.specs.Proof.{IsWhole, Prove, IsMoveFault, IsMovesFault}
-use Rattle.mm_proof.specs.KnownPrefix.{known_prefix, Pass}
+use Rattle.mm_proof.specs.CheckedPrefix.{checked_prefix, Pass}
 use Rattle.mm_step.specs.Profiles.{limit_of}
 use Rattle.mm_proof.specs.Strict.{HasFormOf, IsTextFault}
 use Rattle.mm_proof.specs.UnderProfile.{IsPrefixAllowedUnder}
@@ -88,10 +88,10 @@ halt_verdict Fits before s prefix moves rule h = go h.left h.parts rule h.stops
 -- ---- tokens
 
 pub judged_complete : (tokens : List (List ℕ)) → is_incomplete tokens ≡ false → judged_tokens tokens ≡ tokens
-judged_complete tokens e = ap (λ (b : Bool). if b then known_prefix tokens else tokens) e
+judged_complete tokens e = ap (λ (b : Bool). if b then checked_prefix tokens else tokens) e
 
-pub judged_known : (tokens : List (List ℕ)) → is_incomplete tokens ≡ true → judged_tokens tokens ≡ known_prefix tokens
-judged_known tokens e = ap (λ (b : Bool). if b then known_prefix tokens else tokens) e
+pub judged_known : (tokens : List (List ℕ)) → is_incomplete tokens ≡ true → judged_tokens tokens ≡ checked_prefix tokens
+judged_known tokens e = ap (λ (b : Bool). if b then checked_prefix tokens else tokens) e
 
 -- tokens with the form of the profile that break no rule over all of them have no fault of all
 pub no_whole_fault : (profile : Profile) (before : List Sentence) (s : Sentence) (tokens : List (List ℕ))
@@ -104,13 +104,13 @@ no_whole_fault profile before s tokens rule whole form (inr wrong) = wrong.2 for
 pub no_text_fault : (profile : Profile) (before : List Sentence) (s : Sentence) (tokens : List (List ℕ))
     (rule : ProofRule) → IsWhole before (judged_tokens tokens) → HasFormOf profile before s (judged_tokens tokens)
     → (¬ (is_incomplete tokens ≡ true) → IsTextFault profile before s tokens rule)
-    → (is_incomplete tokens ≡ true → IsTextFault profile before s (known_prefix tokens) rule) → ⊥
+    → (is_incomplete tokens ≡ true → IsTextFault profile before s (checked_prefix tokens) rule) → ⊥
 no_text_fault profile before s tokens rule whole form complete incomplete = go (is_incomplete tokens) refl
   where
     go : (b : Bool) → is_incomplete tokens ≡ b → ⊥
     go true e =
         let same = judged_known tokens e in
-        no_whole_fault profile before s (known_prefix tokens) rule (subst (IsWhole before) same whole)
+        no_whole_fault profile before s (checked_prefix tokens) rule (subst (IsWhole before) same whole)
         (subst (HasFormOf profile before s) same form) (incomplete e)
     go false e =
         let same = judged_complete tokens e in
@@ -204,7 +204,7 @@ halts_as Fits before s p q moves o r same_prefix same_rule h = record {
   stack = h.stack;
   kept = h.kept;
   passed = h.passed;
-  makers = h.makers;
+  origins = h.origins;
   made = h.made;
   stops = subst (λ (b : Bool). StopsWith Fits before s b h.stack h.kept h.left r) same_prefix
       (subst (λ (b : Option ProofRule). StopsWith Fits before s p h.stack h.kept h.left b) same_rule h.stops);
@@ -284,7 +284,7 @@ token_caused {profile} {st} {id} {tokens} {rule} {step} {it} is r =
 -- what is said of the judged tokens, whether they are all or those of the known prefix
 pub of_judged : (tokens : List (List ℕ)) (P : List (List ℕ) → Type 0)
     → (¬ (is_incomplete tokens ≡ true) → P tokens)
-    → (is_incomplete tokens ≡ true → P (known_prefix tokens)) → P (judged_tokens tokens)
+    → (is_incomplete tokens ≡ true → P (checked_prefix tokens)) → P (judged_tokens tokens)
 of_judged tokens P whole known = go (is_incomplete tokens) refl
   where
     go : (b : Bool) → is_incomplete tokens ≡ b → P (judged_tokens tokens)
@@ -311,7 +311,7 @@ text_fault profile before s tokens rule step (inr (c, fault)) none whole = absur
 pub known_text_fault : (profile : Profile) (before : List Sentence) (s : Sentence)
     (tokens : List (List ℕ)) (rule : ProofRule) (step : ℕ)
     → IsTokensFault profile before s tokens rule step → step ≡ 0
-    → is_incomplete tokens ≡ true → IsTextFault profile before s (known_prefix tokens) rule
+    → is_incomplete tokens ≡ true → IsTextFault profile before s (checked_prefix tokens) rule
 known_text_fault profile before s tokens rule step (inl (c, fault)) none known =
     absurd (let e = c in let e' = known in cc)
 known_text_fault profile before s tokens rule step (inr (c, inl fault)) none known = fault.1

@@ -1,11 +1,13 @@
 -- What explains a fault of a proof: facts, and the text that tells them, which is this project's
 -- own.
-use Rattle.std.specs.Prelude.{◌≡◌, ℕ, suc, ◌+◌, List, [], ◌∷◌, ◌++◌, map, length, codes, decimal}
-use Rattle.std.specs.Prelude.{true, false, ◌⊎◌, if◌then◌else◌, nat_lt, Option, Some, None}
-use Rattle.std.specs.Prelude.{unwrap_or, option_map, slice_get, take, Contains}
+use Rattle.std.specs.Prelude.{◌≡◌, ◌≢◌, ◌<◌, ℕ, suc, ◌+◌, List, [], ◌∷◌, ◌++◌, map, length, codes}
+use Rattle.std.specs.Prelude.{true, false, ◌⊎◌, if◌then◌else◌, nat_lt, Option, Some, None, decimal}
+use Rattle.std.specs.Prelude.{unwrap_or, option_map, slice_get, take, Contains, filter, not}
+use Rattle.std.specs.Prelude.{Bool, ◌||◌, is_some}
 use Rattle.std.specs.List.{flat_map, AllZip}
 use Rattle.std.specs.Str.{bytes_eq}
-use Rattle.mm_frame.specs.Sentence.{Sentence, SomeSentence, IsLabelled}
+use Rattle.mm_base.specs.declared.statement.Kind.TheVariants.{Floating}
+use Rattle.mm_frame.specs.Sentence.{Sentence, Types}
 use Rattle.mm_step.specs.declared.fault.ProofRule.{ProofRule}
 use Rattle.mm_step.specs.declared.fault.ProofRule.TheVariants.{P2, P3, P4, P8, P9, P10}
 use Rattle.mm_step.specs.declared.fault.ProofRule.TheVariants.{P11, P12, P14, P15, L1}
@@ -15,7 +17,8 @@ use Rattle.mm_step.specs.Tree.{Names}
 use Rattle.mm_step.specs.Moves.{Move, name, again, mark, steps_in}
 use Rattle.mm_proof.specs.Tokens.{is_incomplete, SayMoves}
 use Rattle.mm_step.specs.Proof.{IsWithin, MeetsHypotheses}
-use Rattle.mm_proof.specs.KnownPrefix.{known_prefix}
+use Rattle.mm_step.specs.Steps.{IsUsable}
+use Rattle.mm_proof.specs.CheckedPrefix.{checked_prefix}
 use Rattle.mm_step.specs.Profiles.{limit_of}
 use Rattle.mm_listing.specs.Halted.{Halts}
 use Rattle.mm_proof.specs.Asked.{AsksFor, AreShared, AreMissing, IsEarlier, IsEarlierPair}
@@ -30,6 +33,8 @@ use Rattle.mm_rules.specs.Explained.{AreMandatoryPairs}
 pub data Detail : Type 0 where
   -- the token at fault
   token_at_fault : (text : List ℕ) → Detail
+  -- what is missing before that token
+  missing_before : (what : List ℕ) → Detail
   -- the label of an earlier statement, to which that token is near
   near_label : (label : List ℕ) → Detail
   -- the label of the step
@@ -43,6 +48,11 @@ pub data Detail : Type 0 where
   hypothesis_stated : (label : List ℕ) → (stated : Expression) → Detail
   -- what the step with a number gives
   entry_given : (number : ℕ) → (given : Expression) → Detail
+  -- the type code that a `$f` asks for, and the entry of another one, which the step with a number
+  -- gives
+  type_asked : (label code : List ℕ) → (number : ℕ) → (given : Expression) → Detail
+  -- the type codes that the step takes, and those of the entries that it gets
+  types_taken : (taken given : List Symbol) → Detail
   -- what a hypothesis asks of the entry that the step with a number gives
   hypothesis_asks :
       (label : List ℕ) → (asked : Expression) → (number : ℕ) → (given : Expression) → Detail
@@ -95,7 +105,7 @@ IsTokensFault profile before s tokens rule step =
 
 -- the tokens that are judged: all of them, if they are complete, else those of the known prefix
 abbrev pub judged_tokens : List (List ℕ) → List (List ℕ)
-judged_tokens tokens = if is_incomplete tokens then known_prefix tokens else tokens
+judged_tokens tokens = if is_incomplete tokens then checked_prefix tokens else tokens
 
 -- The moves that the judged tokens say stop with this rule; with none, where they pass and nothing
 -- is at fault.
@@ -113,23 +123,70 @@ hypotheses_stated hypotheses =
     map (λ h. hypothesis_stated (unwrap_or h.label []) h.symbols) hypotheses
 
 -- what the entries of a stack are, the lowest first, each with the number of the step that made it
-abbrev pub entries_given : (makers : List ℕ) → (stack : List Expression) → List Detail
-entries_given (number ∷ makers) (entry ∷ stack) =
-    entry_given number entry ∷ entries_given makers stack
-entries_given makers stack = []
+abbrev pub entries_given : (origins : List ℕ) → (stack : List Expression) → List Detail
+entries_given (number ∷ origins) (entry ∷ stack) =
+    entry_given number entry ∷ entries_given origins stack
+entries_given origins stack = []
 
 -- What each mandatory hypothesis of the assertion with the label asks, in order, where the step by
 -- it is made on this stack, whose entries these steps made; and the entry, with its step.
-pub record AreAsked (before : List Sentence) (stack : List Expression) (makers : List ℕ)
+pub record AreAsked (before : List Sentence) (stack : List Expression) (origins : List ℕ)
     (label : List ℕ) (details : List Detail) : Type 0 where
   pub met : MeetsHypotheses before stack label
   pub count : length details ≡ length met.hypotheses
   pub each : (i : ℕ) (h : Sentence) (given : Expression) (number : ℕ)
       → slice_get met.hypotheses i ≡ Some h → slice_get met.entries i ≡ Some given
-      → slice_get makers (length met.rest + i) ≡ Some number
+      → slice_get origins (length met.rest + i) ≡ Some number
       → (asked : Expression) × AsksFor before stack label i asked
       × (slice_get details i
       ≡ Some (hypothesis_asks (unwrap_or h.label []) asked number given))
+
+-- the index, from 0 on, of the first symbol at which two expressions differ; none where they are
+-- the same
+abbrev pub difference : Expression → Expression → Option ℕ
+difference [] [] = None
+difference (x ∷ e) (y ∷ f) = if bytes_eq x y then option_map suc (difference e f) else Some 0
+difference e f = Some 0
+
+-- whether they are those of a hypothesis that isn't met: it asks something else than it gets
+abbrev pub is_unmet : Detail → Bool
+is_unmet (hypothesis_asks label asked number given) = is_some (difference asked given)
+is_unmet detail = false
+
+-- The same, those of the hypotheses that aren't met first.
+abbrev pub AreAskedInTurn : (before : List Sentence) → (stack : List Expression)
+    → (origins : List ℕ) → (label : List ℕ) → List Detail → Type 0
+AreAskedInTurn before stack origins label details =
+    (all : List Detail) × AreAsked before stack origins label all
+    × (details ≡ filter is_unmet all ++ filter (λ d. not (is_unmet d)) all)
+
+-- the type codes of expressions, which are their first symbols
+abbrev pub type_codes : List Expression → List Symbol
+type_codes expressions = flat_map (take 1) expressions
+
+-- Of the mandatory hypotheses of the assertion with the label, where the step by it is made on this
+-- stack, whose entries these steps made: the first `$f` whose entry has another type code, and that
+-- entry, with its step; and the type codes of all.
+pub record AreTypesAsked (before : List Sentence) (stack : List Expression) (origins : List ℕ)
+    (label : List ℕ) (details : List Detail) : Type 0 where
+  pub met : MeetsHypotheses before stack label
+  pub index : ℕ
+  pub hypothesis : Sentence
+  pub given : Expression
+  pub number : ℕ
+  pub its : slice_get met.hypotheses index ≡ Some hypothesis
+  pub entry : slice_get met.entries index ≡ Some given
+  pub origin : slice_get origins (length met.rest + index) ≡ Some number
+  pub code : Symbol
+  pub variable : Symbol
+  pub typed : Types code variable hypothesis
+  pub other : slice_get given 0 ≢ Some code
+  pub first : (i : ℕ) (h : Sentence) (e : Expression) → i < index
+      → slice_get met.hypotheses i ≡ Some h → slice_get met.entries i ≡ Some e
+      → h.kind ≡ Floating → slice_get e 0 ≡ slice_get h.symbols 0
+  pub told : details ≡ type_asked (unwrap_or hypothesis.label []) code number given
+      ∷ types_taken (type_codes (map (λ h. h.symbols) met.hypotheses)) (type_codes met.entries)
+      ∷ []
 
 -- these facts, where there is something that they are of
 abbrev pub told_of : {X : Type 0} → List X → List Detail → List Detail
@@ -138,22 +195,22 @@ told_of (x ∷ xs) details = details
 
 -- The facts of a mandatory pair whose members these replace: for P11 they tell of the pair where
 -- both share variables, for P12 where a `$d` of their variables is missing, and of each that is.
-abbrev pub AreApartDetails : (before : List Sentence) → ProofRule → (x y : Symbol)
+abbrev pub AreDisjointDetails : (before : List Sentence) → ProofRule → (x y : Symbol)
     → (e f : Expression) → List Detail → Type 0
-AreApartDetails before P11 x y e f details =
+AreDisjointDetails before P11 x y e f details =
     (shared : List Symbol) × AreShared before e f shared
     × (details ≡ told_of shared (pair_asked x y e f ∷ shared_by_both shared ∷ []))
-AreApartDetails before P12 x y e f details =
+AreDisjointDetails before P12 x y e f details =
     (missing : List (Symbol × Symbol)) × AreMissing before e f missing
     × (details ≡ told_of missing (pair_asked x y e f ∷ map (λ p. step_lacks p.0 p.1) missing))
-AreApartDetails before rule x y e f details = details ≡ []
+AreDisjointDetails before rule x y e f details = details ≡ []
 
 -- those of the pair, under this substitution
 abbrev pub ArePairDetails : (before : List Sentence) → ProofRule → Substitution
     → Symbol × Symbol → List Detail → Type 0
 ArePairDetails before rule σ pair details =
     (e : Expression) × (f : Expression) × (σ pair.0 ≡ Some e) × (σ pair.1 ≡ Some f)
-    × AreApartDetails before rule pair.0 pair.1 e f details
+    × AreDisjointDetails before rule pair.0 pair.1 e f details
 
 -- What the step by the label on this stack tells of each mandatory pair of its assertion, in the
 -- order of the declarations of their variables, of which the one that was declared first stands
@@ -172,50 +229,50 @@ pub record ArePairsAsked (before : List Sentence) (rule : ProofRule) (stack : Li
 -- The facts of the step by a label that breaks the rule on this stack, whose entries these steps
 -- made, behind that label.
 abbrev pub AreStepDetails : (limit : ℕ) → (before : List Sentence) → (stack : List Expression)
-    → (makers : List ℕ) → (label : List ℕ) → ProofRule → List Detail → Type 0
-AreStepDetails limit before stack makers label P8 details =
+    → (origins : List ℕ) → (label : List ℕ) → ProofRule → List Detail → Type 0
+AreStepDetails limit before stack origins label P8 details =
     (index : ℕ) × (assertion : Sentence) × (hypotheses : List Sentence)
     × Names before label index assertion hypotheses
     × (details ≡ entry_counts (length hypotheses) (length stack)
-    ∷ (hypotheses_stated hypotheses ++ entries_given makers stack))
-AreStepDetails limit before stack makers label P9 details =
-    AreAsked before stack makers label details
-AreStepDetails limit before stack makers label P10 details =
-    AreAsked before stack makers label details
-AreStepDetails limit before stack makers label P11 details =
+    ∷ (hypotheses_stated hypotheses ++ entries_given origins stack))
+AreStepDetails limit before stack origins label P9 details =
+    AreTypesAsked before stack origins label details
+AreStepDetails limit before stack origins label P10 details =
+    AreAskedInTurn before stack origins label details
+AreStepDetails limit before stack origins label P11 details =
     ArePairsAsked before P11 stack label details
-AreStepDetails limit before stack makers label P12 details =
+AreStepDetails limit before stack origins label P12 details =
     ArePairsAsked before P12 stack label details
-AreStepDetails limit before stack makers label L1 details = details ≡ most_symbols limit ∷ []
-AreStepDetails limit before stack makers label rule details = details ≡ []
+AreStepDetails limit before stack origins label L1 details = details ≡ most_symbols limit ∷ []
+AreStepDetails limit before stack origins label rule details = details ≡ []
 
 -- the facts of the move that breaks the rule there, where so many trees are kept
 abbrev pub AreMoveDetails : (limit : ℕ) → (before : List Sentence) → (stack kept : List Expression)
-    → (makers : List ℕ) → Move (List ℕ) → ProofRule → List Detail → Type 0
-AreMoveDetails limit before stack kept makers (name label) rule details =
-    (others : List Detail) × AreStepDetails limit before stack makers label rule others
+    → (origins : List ℕ) → Move (List ℕ) → ProofRule → List Detail → Type 0
+AreMoveDetails limit before stack kept origins (name label) rule details =
+    (others : List Detail) × AreStepDetails limit before stack origins label rule others
     × (details ≡ step_label label ∷ others)
-AreMoveDetails limit before stack kept makers (again tag) rule details =
+AreMoveDetails limit before stack kept origins (again tag) rule details =
     details ≡ mark_asked (tag + 1) (length kept) ∷ []
-AreMoveDetails limit before stack kept makers mark rule details = details ≡ []
+AreMoveDetails limit before stack kept origins mark rule details = details ≡ []
 
 -- the facts of what all moves leave on the stack, where it breaks the rule
-abbrev pub AreEndDetails : Sentence → (stack : List Expression) → (makers : List ℕ) → ProofRule
+abbrev pub AreEndDetails : Sentence → (stack : List Expression) → (origins : List ℕ) → ProofRule
     → List Detail → Type 0
-AreEndDetails s stack makers P14 details =
-    (given : Expression) × (number : ℕ) × (stack ≡ given ∷ []) × (makers ≡ number ∷ [])
+AreEndDetails s stack origins P14 details =
+    (given : Expression) × (number : ℕ) × (stack ≡ given ∷ []) × (origins ≡ number ∷ [])
     × (details ≡ end_given s.symbols number given ∷ [])
-AreEndDetails s stack makers rule details = details ≡ entries_given makers stack
+AreEndDetails s stack origins rule details = details ≡ entries_given origins stack
 
 -- The facts of the place where moves stop by the rule: of the first move that is left, or of the
 -- end.
 abbrev pub AreHaltDetails : (limit : ℕ) → (before : List Sentence) → Sentence
-    → (stack kept : List Expression) → (makers : List ℕ) → (left : List (Move (List ℕ)))
+    → (stack kept : List Expression) → (origins : List ℕ) → (left : List (Move (List ℕ)))
     → ProofRule → List Detail → Type 0
-AreHaltDetails limit before s stack kept makers [] rule details =
-    AreEndDetails s stack makers rule details
-AreHaltDetails limit before s stack kept makers (move ∷ more) rule details =
-    AreMoveDetails limit before stack kept makers move rule details
+AreHaltDetails limit before s stack kept origins [] rule details =
+    AreEndDetails s stack origins rule details
+AreHaltDetails limit before s stack kept origins (move ∷ more) rule details =
+    AreMoveDetails limit before stack kept origins move rule details
 
 -- the `$d` statements of these pairs, in order
 abbrev pub pairs_lacking : List (Symbol × Symbol) → List Detail
@@ -230,19 +287,25 @@ AreWholeDetails limit before moves P12 details =
     × (details ≡ pairs_lacking pairs)
 AreWholeDetails limit before moves rule details = details ≡ []
 
--- These are no facts, or the label of an earlier statement.
-abbrev pub AreNearDetails : (before : List Sentence) → List Detail → Type 0
-AreNearDetails before details =
+-- the token is a `(` or a `)`, which stand around the labels of a compressed proof
+abbrev pub is_parenthesis : List ℕ → Bool
+is_parenthesis text = bytes_eq text (codes "(") || bytes_eq text (codes ")")
+
+-- These are no facts, or the label of an earlier statement that the proof may name instead of the
+-- token: that of an assertion, or of an active hypothesis.
+abbrev pub AreNearDetails : (before : List Sentence) → (text : List ℕ) → List Detail → Type 0
+AreNearDetails before text details =
     (details ≡ [])
-    ⊎ ((label : List ℕ) × SomeSentence before (IsLabelled label)
+    ⊎ ((label : List ℕ) × IsUsable before label × (is_parenthesis text ≡ false)
     × (details ≡ near_label label ∷ []))
 
 -- The facts of a token at which the rule over the whole of a proof is broken. For P2 they may tell
--- of a label that an earlier statement has.
+-- of a label that the proof may name.
 abbrev pub AreTokenDetails : (before : List Sentence) → ProofRule → (text : List ℕ) → List Detail
     → Type 0
 AreTokenDetails before P2 text details =
-    (near : List Detail) × AreNearDetails before near × (details ≡ token_at_fault text ∷ near)
+    (near : List Detail) × AreNearDetails before text near
+    × (details ≡ token_at_fault text ∷ near)
 AreTokenDetails before P3 text details = details ≡ token_at_fault text ∷ []
 AreTokenDetails before P4 text details = details ≡ token_at_fault text ∷ []
 AreTokenDetails before P15 text details = details ≡ token_at_fault text ∷ []
@@ -259,7 +322,7 @@ AreDetails profile before s tokens rule step details =
     ⊎ ((h : TokensHalt profile before s tokens (Some rule))
     × (step ≡ steps_in h.halts.earlier + 1)
     × (there : List Detail) × (whole : List Detail)
-    × AreHaltDetails (limit_of profile) before s h.halts.stack h.halts.kept h.halts.makers
+    × AreHaltDetails (limit_of profile) before s h.halts.stack h.halts.kept h.halts.origins
     h.halts.left rule there
     × AreWholeDetails (limit_of profile) before h.moves rule whole
     × (details ≡ there ++ whole))
@@ -270,7 +333,7 @@ abbrev pub AreLeftOver : Profile → (before : List Sentence) → Sentence → (
     → List Detail → Type 0
 AreLeftOver profile before s tokens details =
     (h : TokensHalt profile before s tokens None)
-    × (details ≡ entries_given h.halts.makers h.halts.stack
+    × (details ≡ entries_given h.halts.origins h.halts.stack
     ++ hypothesis_stated (unwrap_or s.label []) s.symbols ∷ [])
 
 -- ---- text
@@ -278,13 +341,6 @@ AreLeftOver profile before s tokens details =
 -- the line of symbols, indented by four
 abbrev pub expression_line : List Symbol → List ℕ
 expression_line symbols = codes "   " ++ symbols_text symbols ++ codes "\n"
-
--- the index, from 0 on, of the first symbol at which two expressions differ; none where they are
--- the same
-abbrev pub difference : Expression → Expression → Option ℕ
-difference [] [] = None
-difference (x ∷ e) (y ∷ f) = if bytes_eq x y then option_map suc (difference e f) else Some 0
-difference e f = Some 0
 
 -- the symbol at an index, from 0 on
 abbrev pub symbol_at : Expression → ℕ → List ℕ
@@ -295,7 +351,7 @@ abbrev pub difference_line : (asked given : Expression) → Option ℕ → List 
 difference_line asked given None = []
 difference_line asked given (Some index) =
     codes "  they differ at symbol " ++ decimal (index + 1) ++ codes ": " ++ symbol_at given index
-    ++ codes " for " ++ symbol_at asked index ++ codes "\n"
+    ++ codes " where " ++ symbol_at asked index ++ codes " is asked\n"
 
 -- the lines of what is asked, of what a step gives instead, and of the difference
 abbrev pub but_given_text : (asked : Expression) → (number : ℕ) → (given : Expression) → List ℕ
@@ -318,9 +374,33 @@ abbrev pub mark_text : ℕ → List ℕ
 mark_text wanted =
     if nat_lt wanted 1000000000 then decimal wanted else codes "1000000000 or a later one"
 
--- the lines of a fact, indented by two, and those of its expressions by four
+-- whether the expression is the variable alone
+abbrev pub is_alone : Symbol → Expression → Bool
+is_alone x (y ∷ []) = bytes_eq x y
+is_alone x e = false
+
+-- the lines of what replaces a variable
+abbrev pub replacement_text : Symbol → Expression → List ℕ
+replacement_text x e = x ++ codes " is\n" ++ expression_line e
+
+-- those of it, unless it is the variable itself
+abbrev pub unless_alone : Symbol → Expression → (same : Bool) → List ℕ
+unless_alone x e true = codes "\n"
+unless_alone x e false = codes ", where " ++ replacement_text x e
+
+-- those of what replaces two variables, unless it is the variable itself
+abbrev pub replacements_text : (x y : Symbol) → (e f : Expression) → (same other_same : Bool)
+    → List ℕ
+replacements_text x y e f true other_same = unless_alone y f other_same
+replacements_text x y e f false true = codes ", where " ++ replacement_text x e
+replacements_text x y e f false false =
+    codes ", where " ++ replacement_text x e ++ codes "  and " ++ replacement_text y f
+
+-- The lines of a fact, indented by two, and those of its expressions by four. Where a block begins
+-- is told in a line of the form of the first one.
 abbrev pub detail_text : Detail → List ℕ
 detail_text (token_at_fault text) = codes "  token: " ++ text ++ codes "\n"
+detail_text (missing_before what) = codes "  missing before it: " ++ what ++ codes "\n"
 detail_text (near_label label) = codes "  near: " ++ label ++ codes "\n"
 detail_text (step_label label) = codes "  step: " ++ label ++ codes "\n"
 detail_text (mark_asked wanted there) =
@@ -333,11 +413,16 @@ detail_text (hypothesis_stated label stated) =
     codes "  " ++ label ++ codes " states\n" ++ expression_line stated
 detail_text (entry_given number given) =
     codes "  step " ++ decimal number ++ codes " gives\n" ++ expression_line given
+detail_text (type_asked label code number given) =
+    codes "  " ++ label ++ codes " asks a " ++ code ++ codes "; step " ++ decimal number
+    ++ codes " gives" ++ symbols_text given ++ codes "\n"
+detail_text (types_taken taken given) =
+    codes "  takes" ++ symbols_text taken ++ codes "; gets" ++ symbols_text given ++ codes "\n"
 detail_text (hypothesis_asks label asked number given) =
     asks_text label asked number given (difference asked given)
 detail_text (pair_asked x y e f) =
-    codes "  it asks $d " ++ x ++ codes " " ++ y ++ codes " $., where " ++ x ++ codes " is\n"
-    ++ expression_line e ++ codes "  and " ++ y ++ codes " is\n" ++ expression_line f
+    codes "  it asks $d " ++ x ++ codes " " ++ y ++ codes " $."
+    ++ replacements_text x y e f (is_alone x e) (is_alone y f)
 detail_text (shared_by_both variables) =
     codes "  both have:" ++ symbols_text variables ++ codes "\n"
 detail_text (step_lacks x y) =
@@ -350,7 +435,7 @@ detail_text (most_symbols symbols) =
     codes "  an expression may have " ++ decimal symbols ++ codes " symbols\n"
 detail_text (begun_at place) = codes "  begun: " ++ place ++ codes "\n"
 detail_text (last_closed_at place) = codes "  the last block is closed: " ++ place ++ codes "\n"
-detail_text (block_opened place) = codes "  in the block: " ++ place ++ codes "\n"
+detail_text (block_opened place) = place ++ codes ": the block is opened here, and not closed\n"
 detail_text (declared_at place) = codes "  declared: " ++ place ++ codes "\n"
 detail_text (repeated_at place) = codes "  before: " ++ place ++ codes "\n"
 detail_text (labelled_at place) = codes "  labelled: " ++ place ++ codes "\n"

@@ -1,21 +1,24 @@
 //! The facts that a report on a faulty proof has, and their order.
 
 ghost use Rattle.std.specs.Prelude.{◌≡◌, ◌≤◌, ◌+◌, ◌++◌, ℕ, List, length, map, take, slice_get};
-ghost use Rattle.std.specs.Prelude.{OnOk, IfOk, IfSome, Some, true, ◌⊎◌};
+ghost use Rattle.std.specs.Prelude.{OnOk, IfOk, IfSome, IsTrue, Some, true, ◌⊎◌};
 ghost use Rattle.std.specs.List.{sum_by};
 ghost use Rattle.mm_base.specs.MostBytes.{most_bytes};
-ghost use Rattle.mm_code.specs.Layout.{texts};
-ghost use Rattle.mm_frame.specs.Sentence.{Sentence, SomeSentence, IsLabelled};
+ghost use Rattle.mm_frame.specs.Sentence.{Sentence, IsAssertion, IsHypothesis};
+ghost use Rattle.mm_frame.specs.Active.{IsActive};
+ghost use Rattle.mm_frame.specs.Numbers.{IsNumbered};
+ghost use Rattle.mm_frame.specs.FrameIndex.{before_it};
 ghost use Rattle.mm_frame.specs.Form.{IsSound};
 ghost use Rattle.mm_step.specs.Mirror.CodeVerify.{AreHypothesesOf};
 ghost use Rattle.mm_step.specs.declared.fault.ProofRule.TheVariants.{P2, P8, P9, P10, P11, P12};
+ghost use Rattle.mm_step.specs.Plain.{token_texts};
 ghost use Rattle.mm_step.specs.Stores.{entries_in};
 ghost use Rattle.mm_listing.specs.Halted.{TellsEntry};
 ghost use Rattle.mm_proof.specs.Parsed.{OfProof, SaySteps};
 ghost use Rattle.mm_proof.specs.ReadSteps.{ReadSteps};
 ghost use Rattle.mm_proof.specs.Verified.{OfMoves};
 ghost use Rattle.mm_step.specs.Substitution.{Symbol};
-ghost use Rattle.mm_step.specs.Steps.{IsProofNumber, AreSteps, IsNumberedMove};
+ghost use Rattle.mm_step.specs.Steps.{IsProofNumber, AreSteps, IsNumberedMove, IsUsable};
 ghost use Rattle.mm_proof.specs.Tokens.{is_incomplete};
 ghost use Rattle.mm_step.specs.Profiles.{limit_of};
 ghost use Rattle.mm_proof.specs.Strict.{HasFormOf, IsTextFault};
@@ -27,16 +30,20 @@ ghost use Rattle.mm_facts.specs.Explained.{AreMoveDetails, AreHaltDetails, AreTo
 ghost use Rattle.mm_facts.specs.Explained.{AreWholeDetails, pairs_lacking};
 ghost use Rattle.mm_facts.specs.Mirror.Explaining.{IsHaltOf, AddsAtHalt, StepFacts, LabelFacts};
 ghost use Rattle.mm_facts.specs.Mirror.Explaining.{AreJudgedSteps, IsJudgedWhole, AskedFacts};
-ghost use Rattle.mm_facts.specs.Mirror.Explaining.{AreNamedPairs, ApartFacts, IsCauseOf};
+ghost use Rattle.mm_facts.specs.Mirror.Explaining.{TypeFacts, TurnFacts};
+ghost use Rattle.mm_facts.specs.Explained.{is_parenthesis as is_parenthesis_there};
+ghost use Rattle.mm_facts.specs.Mirror.Explaining.{AreNamedPairs, DisjointFacts, IsCauseOf};
 
-use crate::disjoint::push_apart_pairs;
+use crate::disjoint::push_disjoint_pairs;
 use crate::fact_lines::{
-    push_asks, push_counts, push_end, push_given, push_marks, push_missing, push_most, push_near,
-    push_stated, push_step, push_token,
+    push_asks_where, push_counts, push_end, push_given, push_marks, push_missing, push_most,
+    push_near, push_stated, push_step, push_token, push_type_asked, push_types,
 };
 use crate::suggestion::Nearest;
+use crate::types::{codes_given, codes_taken, first_of_other_type};
+use mm_base::Token;
 use mm_distinct::{asked_by, lacking_pairs};
-use mm_frame::{Book, Hypothesis, LabelId, Sym};
+use mm_frame::{Book, Frame, Hypothesis, LabelId, LabelKind, Sym};
 use mm_listing::{Halt, HaltAt, halt_of};
 use mm_places::whole_place;
 use mm_proof::{Parsed, Steps};
@@ -47,11 +54,11 @@ use std::alloc::{AllocError, Global};
 fn push_entries(out: &mut Vec<u8>, book: &Book, id: LabelId, halt: &Halt) -> Result<(), AllocError>
     requires { (limit : ℕ) × IsHaltOf limit book.now.statements id.0 halt.now }
     ensures { OnOk result ((limit : ℕ) → AddsAtHalt limit book.now.statements id.0 halt.now
-        (λ before s stack kept makers left details. details ≡ entries_given makers stack)
+        (λ before s stack kept origins left details. details ≡ entries_given origins stack)
         out.old.items out.new.items) }
 {
-    for index in 0..halt.makers.len() {
-        push_given(out, book, halt.makers[index], halt.entry(index))?;
+    for index in 0..halt.origins.len() {
+        push_given(out, book, halt.origins[index], halt.entry(index))?;
     }
     Ok(())
 }
@@ -68,7 +75,7 @@ fn push_at_end(
     requires end { halt.now.at ≡ HaltAt.End }
     requires rule { halt.now.rule ≡ Some rule }
     ensures { OnOk result ((limit : ℕ) → AddsAtHalt limit book.now.statements id.0 halt.now
-        (λ before s stack kept makers left details. AreEndDetails s stack makers rule details)
+        (λ before s stack kept origins left details. AreEndDetails s stack origins rule details)
         out.old.items out.new.items) }
 {
     match rule {
@@ -76,7 +83,7 @@ fn push_at_end(
             out,
             book,
             book.expression(id),
-            halt.makers[0],
+            halt.origins[0],
             halt.entry(0),
         ),
         _ => push_entries(out, book, id, halt),
@@ -122,7 +129,7 @@ fn push_too_few(
         (StepFacts limit P8) out.old.items out.new.items) }
 {
     let hypotheses = book.frame(label).hypotheses();
-    push_counts(out, hypotheses.len(), halt.makers.len())?;
+    push_counts(out, hypotheses.len(), halt.origins.len())?;
     push_hypotheses(out, book, hypotheses)?;
     push_entries(out, book, id, halt)
 }
@@ -133,22 +140,22 @@ fn entries_from<'h>(
     halt: &'h Halt,
     base: usize,
 ) -> Result<Vec<&'h [Sym]>, AllocError>
-    requires { base ≤ length halt.now.makers.items }
+    requires { base ≤ length halt.now.origins.items }
     ensures count { IfOk result (λ entries.
-        base + length entries.items ≡ length halt.now.makers.items) }
+        base + length entries.items ≡ length halt.now.origins.items) }
     ensures entries { IfOk result (λ entries. (k : ℕ) (numbers : List ℕ)
         → slice_get (entries_in entries.items) k ≡ Some numbers
         → TellsEntry halt.now (base + k) numbers) }
 {
     let mut entries = Vec::new(alloc);
-    for index in base..halt.makers.len() {
+    for index in base..halt.origins.len() {
         entries.push(halt.entry(index))?;
     }
     Ok(entries)
 }
 
-/// What each hypothesis of an assertion asks, and the entry that there is for it.
-fn push_asked(
+/// The first entry of another type than its hypothesis asks, and the types of all.
+fn push_types_asked(
     out: &mut Vec<u8>,
     alloc: Global,
     book: &Book,
@@ -159,26 +166,82 @@ fn push_asked(
     requires sound { IsSound book.now.statements }
     requires halt { (limit : ℕ) × IsHaltOf limit book.now.statements id.0 halt.now }
     requires place { halt.now.at ≡ HaltAt.Label label }
-    requires rule { (halt.now.rule ≡ Some P9) ⊎ (halt.now.rule ≡ Some P10) }
+    requires rule { halt.now.rule ≡ Some P9 }
     ensures { OnOk result ((limit : ℕ) → AddsAtHalt limit book.now.statements id.0 halt.now
-        AskedFacts out.old.items out.new.items) }
+        TypeFacts out.old.items out.new.items) }
 {
     let hypotheses = book.frame(label).hypotheses();
-    let base = halt.makers.len() - hypotheses.len();
+    let base = halt.origins.len() - hypotheses.len();
+    let entries = entries_from(alloc, halt, base)?;
+    match first_of_other_type(hypotheses, &entries) {
+        Some((index, code)) => {
+            let asking = book.label(hypotheses[index].id);
+            let number = halt.origins[base + index];
+            push_type_asked(out, book, asking, book.name(code), number, entries[index])?;
+            let taken = codes_taken(alloc, book, hypotheses)?;
+            push_types(out, book, &taken, &codes_given(alloc, &entries)?)
+        }
+        // Some entry has another type than its hypothesis: P9 is broken.
+        None => unreachable!(),
+    }
+}
+
+/// What each hypothesis of an assertion asks that isn't met, or that is, and the entry that there
+/// is for it.
+fn push_asked(
+    out: &mut Vec<u8>,
+    alloc: Global,
+    book: &Book,
+    id: LabelId,
+    halt: &Halt,
+    label: LabelId,
+    unmet: bool,
+) -> Result<(), AllocError>
+    requires sound { IsSound book.now.statements }
+    requires halt { (limit : ℕ) × IsHaltOf limit book.now.statements id.0 halt.now }
+    requires place { halt.now.at ≡ HaltAt.Label label }
+    requires rule { halt.now.rule ≡ Some P10 }
+    ensures { OnOk result ((limit : ℕ) → AddsAtHalt limit book.now.statements id.0 halt.now
+        (AskedFacts unmet) out.old.items out.new.items) }
+{
+    let hypotheses = book.frame(label).hypotheses();
+    let base = halt.origins.len() - hypotheses.len();
     let entries = entries_from(alloc, halt, base)?;
     for index in 0..hypotheses.len() {
         let asked = asked_by(alloc, book, id, label, &entries, index)?;
         let name = book.label(hypotheses[index].id);
-        push_asks(
+        push_asks_where(
             out,
             book,
             name,
             &asked,
-            halt.makers[base + index],
+            halt.origins[base + index],
             entries[index],
+            unmet,
         )?;
     }
     Ok(())
+}
+
+/// What each hypothesis of an assertion asks, and the entry that there is for it, those first that
+/// aren't met.
+fn push_asked_in_turn(
+    out: &mut Vec<u8>,
+    alloc: Global,
+    book: &Book,
+    id: LabelId,
+    halt: &Halt,
+    label: LabelId,
+) -> Result<(), AllocError>
+    requires sound { IsSound book.now.statements }
+    requires halt { (limit : ℕ) × IsHaltOf limit book.now.statements id.0 halt.now }
+    requires place { halt.now.at ≡ HaltAt.Label label }
+    requires rule { halt.now.rule ≡ Some P10 }
+    ensures { OnOk result ((limit : ℕ) → AddsAtHalt limit book.now.statements id.0 halt.now
+        TurnFacts out.old.items out.new.items) }
+{
+    push_asked(out, alloc, book, id, halt, label, true)?;
+    push_asked(out, alloc, book, id, halt, label, false)
 }
 
 /// What is told of the mandatory pairs of an assertion.
@@ -197,12 +260,12 @@ fn push_pairs_asked(
     requires broken { halt.now.rule ≡ Some rule }
     requires apart { (rule ≡ P11) ⊎ (rule ≡ P12) }
     ensures { OnOk result ((limit : ℕ) → AddsAtHalt limit book.now.statements id.0 halt.now
-        (ApartFacts rule) out.old.items out.new.items) }
+        (DisjointFacts rule) out.old.items out.new.items) }
 {
     let frame = book.frame(label);
-    let base = halt.makers.len() - frame.hypotheses().len();
+    let base = halt.origins.len() - frame.hypotheses().len();
     let entries = entries_from(alloc, halt, base)?;
-    push_apart_pairs(out, alloc, book, id, rule, &entries, frame.pairs())
+    push_disjoint_pairs(out, alloc, book, id, rule, &entries, frame.pairs())
 }
 
 /// What is told of the step by a label that breaks a rule, behind that label.
@@ -224,8 +287,8 @@ fn push_step_details(
 {
     match step.1 {
         ProofRule::P8 => push_too_few(out, book, id, halt, step.0),
-        ProofRule::P9 => push_asked(out, alloc, book, id, halt, step.0),
-        ProofRule::P10 => push_asked(out, alloc, book, id, halt, step.0),
+        ProofRule::P9 => push_types_asked(out, alloc, book, id, halt, step.0),
+        ProofRule::P10 => push_asked_in_turn(out, alloc, book, id, halt, step.0),
         ProofRule::P11 => push_pairs_asked(out, alloc, book, id, halt, step.0, step.1),
         ProofRule::P12 => push_pairs_asked(out, alloc, book, id, halt, step.0, step.1),
         ProofRule::L1 => push_most(out, profile.limit()),
@@ -268,8 +331,8 @@ fn push_halt(
     requires halt { IsHaltOf (limit_of profile) book.now.statements id.0 halt.now }
     requires broken { halt.now.rule ≡ Some rule }
     ensures { OnOk result (AddsAtHalt (limit_of profile) book.now.statements id.0 halt.now
-        (λ before s stack kept makers left details.
-        AreHaltDetails (limit_of profile) before s stack kept makers left rule details)
+        (λ before s stack kept origins left details.
+        AreHaltDetails (limit_of profile) before s stack kept origins left rule details)
         out.old.items out.new.items) }
 {
     match halt.at {
@@ -334,12 +397,13 @@ fn steps_of(
     profile: Profile,
     book: &Book,
     id: LabelId,
-    tokens: &[&[u8]],
+    tokens: &[Token],
 ) -> Result<Steps, AllocError>
     requires proof { (index : ℕ) × (s : Sentence) × IsProofNumber book.now.statements id.0 index s }
-    requires room { sum_by length (texts tokens.now) ≤ most_bytes }
-    requires whole { IsJudgedWhole profile book.now.statements id.0 (texts tokens.now) }
-    ensures { IfOk result (AreJudgedSteps profile book.now.statements id.0 (texts tokens.now)) }
+    requires room { sum_by length (token_texts tokens.now) ≤ most_bytes }
+    requires whole { IsJudgedWhole profile book.now.statements id.0 (token_texts tokens.now) }
+    ensures { IfOk result
+        (AreJudgedSteps profile book.now.statements id.0 (token_texts tokens.now)) }
 {
     match Steps::parse(alloc, profile, book, id, tokens) {
         Ok(parsed) => Ok(judged(parsed)),
@@ -372,16 +436,16 @@ pub fn cause_of<'t>(
     profile: Profile,
     book: &Book,
     id: LabelId,
-    tokens: &[&'t [u8]],
+    tokens: &[Token<'t>],
     fault: (ProofRule, usize),
 ) -> Result<Cause<'t>, AllocError>
     requires proof { (index : ℕ) × (s : Sentence) × IsProofNumber book.now.statements id.0 index s }
-    requires room { sum_by length (texts tokens.now) ≤ most_bytes }
+    requires room { sum_by length (token_texts tokens.now) ≤ most_bytes }
     requires fault { OfProof book.now.statements id.0 (λ index s.
-        IsTokensFault profile (take index book.now.statements) s (texts tokens.now)
+        IsTokensFault profile (take index book.now.statements) s (token_texts tokens.now)
         fault.0 fault.1) }
     ensures { IfOk result
-        (IsCauseOf profile book.now.statements id.0 (texts tokens.now) fault.0 fault.1) }
+        (IsCauseOf profile book.now.statements id.0 (token_texts tokens.now) fault.0 fault.1) }
 {
     // The frame of the `$p` tells that its book is sound.
     let _own = book.frame(id);
@@ -390,7 +454,7 @@ pub fn cause_of<'t>(
         return Ok(Cause::Token {
             index,
             byte,
-            text: tokens[index],
+            text: tokens[index].text,
         });
     }
     let steps = steps_of(alloc, profile, book, id, tokens)?;
@@ -398,23 +462,48 @@ pub fn cause_of<'t>(
     Ok(Cause::Moves { steps, halt })
 }
 
-/// The label of a statement before the `$p` with the number that is nearest to the wanted one, if
-/// one is near.
+/// Whether a labelled statement is an assertion, or a hypothesis that is active at a frame's index.
+fn is_usable(book: &Book, own: &Frame, id: LabelId) -> bool
+    requires { own.now.statements ≡ book.now.statements }
+    ensures { (index : ℕ) (s : Sentence) → IsNumbered book.now.statements id.0 index s
+        → IsTrue result
+        → IsAssertion s.kind ⊎ (IsHypothesis s.kind × IsActive (before_it own.now) index) }
+{
+    match book.kind(id) {
+        LabelKind::Floating => own.active(id),
+        LabelKind::Essential => own.active(id),
+        _ => true,
+    }
+}
+
+/// The label that is nearest to the wanted one, of those that the proof of the `$p` with the number
+/// may name, if one is near.
 fn near_label<'a>(
     alloc: Global,
     book: &Book<'a>,
     id: LabelId,
     wanted: &[u8],
 ) -> Result<Option<&'a [u8]>, AllocError>
+    requires { (index : ℕ) × (s : Sentence) × IsProofNumber book.now.statements id.0 index s }
     ensures { IfOk result (λ found. IfSome found (λ label.
         OfProof book.now.statements id.0 (λ index s.
-        SomeSentence (take index book.now.statements) (IsLabelled label.now)))) }
+        IsUsable (take index book.now.statements) label.now))) }
 {
+    let own = book.frame(id);
     let mut nearest = Nearest::new(alloc, wanted);
     for number in 0..id.0 {
-        nearest.offer(book.label(LabelId(number)))?;
+        if is_usable(book, &own, LabelId(number)) {
+            nearest.offer(book.label(LabelId(number)))?;
+        }
     }
     Ok(nearest.found)
+}
+
+/// Whether the token is a parenthesis.
+fn is_parenthesis(text: &[u8]) -> bool
+    ensures { result ≡ is_parenthesis_there text.now }
+{
+    text == b"(".as_slice() || text == b")".as_slice()
 }
 
 /// A label that no statement before the `$p` with the number has, and one that is near.
@@ -425,11 +514,15 @@ fn push_unknown_label(
     id: LabelId,
     label: &[u8],
 ) -> Result<(), AllocError>
+    requires { (index : ℕ) × (s : Sentence) × IsProofNumber book.now.statements id.0 index s }
     ensures { OnOk result (OfProof book.now.statements id.0 (λ index s. (details : List Detail)
         × AreTokenDetails (take index book.now.statements) P2 label.now details
         × (out.new.items ≡ out.old.items ++ details_text details))) }
 {
     push_token(out, label)?;
+    if is_parenthesis(label) {
+        return Ok(());
+    }
     match near_label(alloc, book, id, label)? {
         Some(near) => push_near(out, near),
         None => Ok(()),
@@ -445,6 +538,7 @@ fn push_at_token(
     rule: ProofRule,
     text: &[u8],
 ) -> Result<(), AllocError>
+    requires { (index : ℕ) × (s : Sentence) × IsProofNumber book.now.statements id.0 index s }
     ensures { OnOk result (OfProof book.now.statements id.0 (λ index s. (details : List Detail)
         × AreTokenDetails (take index book.now.statements) rule text.now details
         × (out.new.items ≡ out.old.items ++ details_text details))) }
@@ -493,15 +587,15 @@ pub fn push_left_over(
     profile: Profile,
     book: &Book,
     id: LabelId,
-    tokens: &[&[u8]],
+    tokens: &[Token],
 ) -> Result<(), AllocError>
     requires proof { (index : ℕ) × (s : Sentence) × IsProofNumber book.now.statements id.0 index s }
-    requires room { sum_by length (texts tokens.now) ≤ most_bytes }
-    requires incomplete { is_incomplete (texts tokens.now) ≡ true }
+    requires room { sum_by length (token_texts tokens.now) ≤ most_bytes }
+    requires incomplete { is_incomplete (token_texts tokens.now) ≡ true }
     requires allowed { OfProof book.now.statements id.0 (λ index s.
-        IsPrefixAllowedUnder profile (take index book.now.statements) s (texts tokens.now)) }
+        IsPrefixAllowedUnder profile (take index book.now.statements) s (token_texts tokens.now)) }
     ensures { OnOk result (OfProof book.now.statements id.0 (λ index s. (details : List Detail)
-        × AreLeftOver profile (take index book.now.statements) s (texts tokens.now) details
+        × AreLeftOver profile (take index book.now.statements) s (token_texts tokens.now) details
         × (out.new.items ≡ out.old.items ++ details_text details))) }
 {
     // The frame of the `$p` tells that its book is sound.

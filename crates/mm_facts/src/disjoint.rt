@@ -8,7 +8,7 @@ ghost use Rattle.mm_step.specs.Stores.{numbers_in, entries_in};
 ghost use Rattle.mm_step.specs.Substitution.{Symbol};
 ghost use Rattle.mm_distinct.specs.InOrder.{AreDifferent, AreInOrder};
 ghost use Rattle.mm_facts.specs.Explained.{details_text, step_lacks};
-ghost use Rattle.mm_facts.specs.Mirror.Explaining.{IsDeclaredIn, AddsApart, AreNamedPairs};
+ghost use Rattle.mm_facts.specs.Mirror.Explaining.{IsDeclaredIn, AddsDisjoint, AreNamedPairs};
 ghost use Rattle.mm_facts.specs.Mirror.Explaining.{AreEntriesIn, IsPairWithin, AddsPair, AddsPairs};
 ghost use Rattle.mm_frame.specs.declared.distinct.DistinctPair.{DistinctPair};
 
@@ -32,7 +32,7 @@ fn push_sharing(
     requires second { IsDeclaredIn book.now.statements id.0 (numbers_in f.now) }
     requires x { variables.0.0 < length (symbols_of book.now.statements) }
     requires y { variables.1.0 < length (symbols_of book.now.statements) }
-    ensures { OnOk result (AddsApart book.now.statements id.0 P11 variables
+    ensures { OnOk result (AddsDisjoint book.now.statements id.0 P11 variables
         (numbers_in e.now) (numbers_in f.now) out.old.items out.new.items) }
 {
     let shared = shared_variables(alloc, book, id, e, f)?;
@@ -80,7 +80,7 @@ fn push_lacking(
     requires second { IsDeclaredIn book.now.statements id.0 (numbers_in f.now) }
     requires x { variables.0.0 < length (symbols_of book.now.statements) }
     requires y { variables.1.0 < length (symbols_of book.now.statements) }
-    ensures { OnOk result (AddsApart book.now.statements id.0 P12 variables
+    ensures { OnOk result (AddsDisjoint book.now.statements id.0 P12 variables
         (numbers_in e.now) (numbers_in f.now) out.old.items out.new.items) }
 {
     let missing = missing_pairs(alloc, book, id, e, f)?;
@@ -109,7 +109,7 @@ fn behind_first(entry: &[Sym]) -> &[Sym]
 }
 
 /// What is told of a mandatory pair, where these are the entries of the hypotheses.
-fn push_apart_pair(
+fn push_disjoint_pair(
     out: &mut Vec<u8>,
     alloc: Global,
     book: &Book,
@@ -149,14 +149,14 @@ fn push_each_pair(
         pairs.now out.old.items out.new.items) }
 {
     for pair in pairs {
-        push_apart_pair(out, alloc, book, id, rule, entries, *pair)?;
+        push_disjoint_pair(out, alloc, book, id, rule, entries, *pair)?;
     }
     Ok(())
 }
 
 /// What is told of mandatory pairs, where these are the entries of the hypotheses: in the order of
 /// the declarations of their variables.
-pub(crate) fn push_apart_pairs(
+pub(crate) fn push_disjoint_pairs(
     out: &mut Vec<u8>,
     alloc: Global,
     book: &Book,

@@ -1,7 +1,7 @@
 //! The lines of a report on a faulty proof, one for each fact.
 
 ghost use Rattle.std.specs.Prelude.{◌≡◌, ◌≢◌, ◌<◌, ◌++◌, ◌+◌, ◌^◌, ℕ, length, decimal, OnOk, codes};
-ghost use Rattle.std.specs.Prelude.{Some, None, IfSome, slice_get, map};
+ghost use Rattle.std.specs.Prelude.{Some, None, IfSome, List, slice_get, map, filter, ◌∷◌, []};
 ghost use Rattle.std.specs.List.{AllByRecursion};
 ghost use Rattle.mm_text.specs.Files.{plain_file};
 ghost use Rattle.mm_base.specs.Token.{plain_token};
@@ -9,12 +9,15 @@ ghost use Rattle.mm_frame.specs.Numbers.{symbols_of};
 ghost use Rattle.mm_step.specs.Stores.{numbers_in};
 ghost use Rattle.mm_facts.specs.Explained.{detail_text, expression_line, difference_line};
 ghost use Rattle.mm_facts.specs.Explained.{but_given_text, pair_asked, end_given, mark_text};
-ghost use Rattle.mm_facts.specs.Explained.{symbol_at as symbol_there};
+ghost use Rattle.mm_facts.specs.Explained.{symbol_at as symbol_there, is_alone as is_alone_in};
+ghost use Rattle.mm_facts.specs.Explained.{replacement_text, replacements_text, unless_alone};
 ghost use Rattle.mm_facts.specs.Explained.{token_at_fault, step_label, mark_asked, entry_counts};
 ghost use Rattle.mm_facts.specs.Explained.{hypothesis_stated, entry_given, hypothesis_asks};
 ghost use Rattle.mm_facts.specs.Explained.{most_symbols, missing_pair, step_lacks, shared_by_both};
 ghost use Rattle.mm_facts.specs.Explained.{block_opened, near_label, stated_at, block_ended_at};
-ghost use Rattle.mm_facts.specs.Explained.{hypothesis_at};
+ghost use Rattle.mm_facts.specs.Explained.{hypothesis_at, type_asked, types_taken, details_text};
+ghost use Rattle.mm_facts.specs.Explained.{missing_before};
+ghost use Rattle.mm_facts.specs.Mirror.Explaining.{is_told};
 ghost use Rattle.mm_facts.specs.MeaningFacts.{met_as};
 ghost use Rattle.mm_rules.specs.Answer.{labels_at};
 ghost use Rattle.mm_rules.specs.Places.{place_text, token_place};
@@ -61,6 +64,13 @@ pub fn push_token(out: &mut Vec<u8>, text: &[u8]) -> Result<(), AllocError>
     ensures { OnOk result (out.new.items ≡ out.old.items ++ detail_text (token_at_fault text.now)) }
 {
     push_between(out, b"  token: ", text, b"\n")
+}
+
+/// What is missing before the token at fault.
+pub fn push_missing_before(out: &mut Vec<u8>, what: &[u8]) -> Result<(), AllocError>
+    ensures { OnOk result (out.new.items ≡ out.old.items ++ detail_text (missing_before what.now)) }
+{
+    push_between(out, b"  missing before it: ", what, b"\n")
 }
 
 /// A label that is near to the token at fault.
@@ -227,7 +237,12 @@ fn push_difference(
 {
     push_number_between(out, b"  they differ at symbol ", index + 1, b": ")?;
     out.extend_from_slice(symbol_at(book, given, index))?;
-    push_between(out, b" for ", symbol_at(book, asked, index), b"\n")
+    push_between(
+        out,
+        b" where ",
+        symbol_at(book, asked, index),
+        b" is asked\n",
+    )
 }
 
 /// What is asked, what a step gives, and where they differ.
@@ -256,7 +271,7 @@ fn push_but_given(
 }
 
 /// What a hypothesis asks, and what a step gives.
-pub(crate) fn push_asks(
+fn push_asks(
     out: &mut Vec<u8>,
     book: &Book,
     label: &[u8],
@@ -284,6 +299,94 @@ pub(crate) fn push_asks(
             push_expression(out, book, asked)
         }
     }
+}
+
+/// Whether a hypothesis isn't met, where those that aren't are wanted; else whether it is.
+fn is_wanted(unmet: bool, book: &Book, asked: &[Sym], given: &[Sym]) -> bool
+    requires asked { AllByRecursion (λ n. n < length (symbols_of book.now.statements))
+        (numbers_in asked.now) }
+    requires given { AllByRecursion (λ n. n < length (symbols_of book.now.statements))
+        (numbers_in given.now) }
+    ensures { (label : List ℕ) (number : ℕ) → result ≡ is_told unmet (hypothesis_asks label
+        (labels_at (symbols_of book.now.statements) (numbers_in asked.now)) number
+        (labels_at (symbols_of book.now.statements) (numbers_in given.now))) }
+{
+    let differ = difference(asked, given).is_some();
+    if unmet { differ } else { !differ }
+}
+
+/// What a hypothesis asks, and what a step gives, where it isn't met, or where it is.
+pub(crate) fn push_asks_where(
+    out: &mut Vec<u8>,
+    book: &Book,
+    label: &[u8],
+    asked: &[Sym],
+    number: usize,
+    given: &[Sym],
+    unmet: bool,
+) -> Result<(), AllocError>
+    requires asked { AllByRecursion (λ n. n < length (symbols_of book.now.statements))
+        (numbers_in asked.now) }
+    requires given { AllByRecursion (λ n. n < length (symbols_of book.now.statements))
+        (numbers_in given.now) }
+    ensures { OnOk result (out.new.items ≡ out.old.items
+        ++ details_text (filter (is_told unmet) (hypothesis_asks label.now
+        (labels_at (symbols_of book.now.statements) (numbers_in asked.now)) number
+        (labels_at (symbols_of book.now.statements) (numbers_in given.now)) ∷ []))) }
+{
+    if is_wanted(unmet, book, asked, given) {
+        return push_asks(out, book, label, asked, number, given);
+    }
+    Ok(())
+}
+
+/// The type code that a `$f` asks for, and the entry of another one that a step gives.
+#[tactic(auto, using(crate::proofs::DetailTexts::type_parts))]
+pub(crate) fn push_type_asked(
+    out: &mut Vec<u8>,
+    book: &Book,
+    label: &[u8],
+    code: &[u8],
+    number: usize,
+    given: &[Sym],
+) -> Result<(), AllocError>
+    requires { AllByRecursion (λ n. n < length (symbols_of book.now.statements))
+        (numbers_in given.now) }
+    ensures { OnOk result (out.new.items ≡ out.old.items
+        ++ detail_text (type_asked label.now code.now number
+        (labels_at (symbols_of book.now.statements) (numbers_in given.now)))) }
+{
+    push_between(out, b"  ", label, b" asks a ")?;
+    push_between(out, b"", code, b"; step ")?;
+    push_number_between(out, b"", number, b" gives")?;
+    push_symbols(out, book, given)?;
+    out.push(b'\n')?;
+    Ok(())
+}
+
+/// The type codes that a step takes, and those of the entries that it gets.
+#[tactic(auto, using(crate::proofs::DetailTexts::types_parts))]
+pub(crate) fn push_types(
+    out: &mut Vec<u8>,
+    book: &Book,
+    taken: &[Sym],
+    given: &[Sym],
+) -> Result<(), AllocError>
+    requires taken { AllByRecursion (λ n. n < length (symbols_of book.now.statements))
+        (numbers_in taken.now) }
+    requires given { AllByRecursion (λ n. n < length (symbols_of book.now.statements))
+        (numbers_in given.now) }
+    ensures { OnOk result (out.new.items ≡ out.old.items
+        ++ detail_text (types_taken
+        (labels_at (symbols_of book.now.statements) (numbers_in taken.now))
+        (labels_at (symbols_of book.now.statements) (numbers_in given.now)))) }
+{
+    out.extend_from_slice(b"  takes")?;
+    push_symbols(out, book, taken)?;
+    out.extend_from_slice(b"; gets")?;
+    push_symbols(out, book, given)?;
+    out.push(b'\n')?;
+    Ok(())
 }
 
 /// What is to be proved, and what the last step gives.
@@ -346,12 +449,12 @@ pub(crate) fn push_missing(out: &mut Vec<u8>, x: &[u8], y: &[u8]) -> Result<(), 
 }
 
 /// Two variables that must stay apart.
-fn push_apart(out: &mut Vec<u8>, x: &[u8], y: &[u8]) -> Result<(), AllocError>
+fn push_disjoint(out: &mut Vec<u8>, x: &[u8], y: &[u8]) -> Result<(), AllocError>
     ensures { OnOk result (out.new.items ≡ out.old.items
-        ++ (codes "  it asks $d " ++ x.now ++ codes " " ++ y.now ++ codes " $., where ")) }
+        ++ (codes "  it asks $d " ++ x.now ++ codes " " ++ y.now ++ codes " $.")) }
 {
     push_between(out, b"  it asks $d ", x, b" ")?;
-    push_between(out, b"", y, b" $., where ")
+    push_between(out, b"", y, b" $.")
 }
 
 /// What replaces a variable.
@@ -363,11 +466,70 @@ fn push_replaced(
 ) -> Result<(), AllocError>
     requires { AllByRecursion (λ n. n < length (symbols_of book.now.statements))
         (numbers_in symbols.now) }
-    ensures { OnOk result (out.new.items ≡ out.old.items ++ (x.now ++ codes " is\n"
-        ++ expression_line (labels_at (symbols_of book.now.statements) (numbers_in symbols.now)))) }
+    ensures { OnOk result (out.new.items ≡ out.old.items ++ replacement_text x.now
+        (labels_at (symbols_of book.now.statements) (numbers_in symbols.now))) }
 {
     push_between(out, b"", x, b" is\n")?;
     push_expression(out, book, symbols)
+}
+
+/// Whether the expression is the variable alone.
+fn is_alone(book: &Book, x: &[u8], e: &[Sym]) -> bool
+    requires { AllByRecursion (λ n. n < length (symbols_of book.now.statements))
+        (numbers_in e.now) }
+    ensures { result ≡ is_alone_in x.now
+        (labels_at (symbols_of book.now.statements) (numbers_in e.now)) }
+{
+    match e {
+        [symbol] => x == book.name(*symbol),
+        _ => false,
+    }
+}
+
+/// What replaces a variable, unless it is the variable itself.
+fn push_unless_alone(out: &mut Vec<u8>, book: &Book, x: &[u8], e: &[Sym]) -> Result<(), AllocError>
+    requires { AllByRecursion (λ n. n < length (symbols_of book.now.statements))
+        (numbers_in e.now) }
+    ensures { OnOk result (out.new.items ≡ out.old.items ++ unless_alone x.now
+        (labels_at (symbols_of book.now.statements) (numbers_in e.now))
+        (is_alone_in x.now (labels_at (symbols_of book.now.statements) (numbers_in e.now)))) }
+{
+    if is_alone(book, x, e) {
+        return push_between(out, b"", b"\n", b"");
+    }
+    out.extend_from_slice(b", where ")?;
+    push_replaced(out, book, x, e)
+}
+
+/// What replaces two variables, unless it is the variable itself.
+fn push_replacements(
+    out: &mut Vec<u8>,
+    book: &Book,
+    x: &[u8],
+    y: &[u8],
+    e: &[Sym],
+    f: &[Sym],
+) -> Result<(), AllocError>
+    requires first { AllByRecursion (λ n. n < length (symbols_of book.now.statements))
+        (numbers_in e.now) }
+    requires second { AllByRecursion (λ n. n < length (symbols_of book.now.statements))
+        (numbers_in f.now) }
+    ensures { OnOk result (out.new.items ≡ out.old.items ++ replacements_text x.now y.now
+        (labels_at (symbols_of book.now.statements) (numbers_in e.now))
+        (labels_at (symbols_of book.now.statements) (numbers_in f.now))
+        (is_alone_in x.now (labels_at (symbols_of book.now.statements) (numbers_in e.now)))
+        (is_alone_in y.now (labels_at (symbols_of book.now.statements) (numbers_in f.now)))) }
+{
+    if is_alone(book, x, e) {
+        return push_unless_alone(out, book, y, f);
+    }
+    out.extend_from_slice(b", where ")?;
+    push_replaced(out, book, x, e)?;
+    if is_alone(book, y, f) {
+        return Ok(());
+    }
+    out.extend_from_slice(b"  and ")?;
+    push_replaced(out, book, y, f)
 }
 
 /// Two variables that must stay apart, and what replaces them.
@@ -388,10 +550,8 @@ pub(crate) fn push_pair(
         (labels_at (symbols_of book.now.statements) (numbers_in e.now))
         (labels_at (symbols_of book.now.statements) (numbers_in f.now)))) }
 {
-    push_apart(out, x, y)?;
-    push_replaced(out, book, x, e)?;
-    out.extend_from_slice(b"  and ")?;
-    push_replaced(out, book, y, f)
+    push_disjoint(out, x, y)?;
+    push_replacements(out, book, x, y, e, f)
 }
 
 /// The most symbols that an expression may have.
@@ -401,22 +561,22 @@ pub(crate) fn push_most(out: &mut Vec<u8>, symbols: usize) -> Result<(), AllocEr
     push_number_between(out, b"  an expression may have ", symbols, b" symbols\n")
 }
 
-/// The place where a token stands, between words and the line's end.
+/// The place where a token stands, between words.
 #[tactic(auto, using(crate::proofs::DetailTexts::three_parts))]
 fn push_where(
     out: &mut Vec<u8>,
-    words: &[u8],
+    before: &[u8],
     files: &[File],
     token: Token,
+    after: &[u8],
 ) -> Result<(), AllocError>
     ensures { OnOk result (out.new.items ≡ out.old.items
-        ++ (words.now ++ token_place (map plain_file files.now) (plain_token token.entry)
-        ++ codes "\n")) }
+        ++ (before.now ++ token_place (map plain_file files.now) (plain_token token.entry)
+        ++ after.now)) }
 {
-    out.extend_from_slice(words)?;
+    out.extend_from_slice(before)?;
     push_place(out, files, place_of(files, token.file, token.at as usize))?;
-    out.push(b'\n')?;
-    Ok(())
+    out.extend_from_slice(after)
 }
 
 /// Where the block begins in which the statement stands.
@@ -424,7 +584,8 @@ pub fn push_block(out: &mut Vec<u8>, files: &[File], token: Token) -> Result<(),
     ensures { OnOk result (out.new.items ≡ out.old.items ++ detail_text
         (block_opened (token_place (map plain_file files.now) (plain_token token.entry)))) }
 {
-    push_where(out, b"  in the block: ", files, token)
+    let words = b": the block is opened here, and not closed\n";
+    push_where(out, b"", files, token, words)
 }
 
 /// Where a name was met before, by what the rule says that it was met as.
@@ -438,10 +599,10 @@ pub fn push_met(
         (met_as rule (token_place (map plain_file files.now) (plain_token token.entry)))) }
 {
     match rule {
-        MeaningRule::M4 | MeaningRule::M5 => push_where(out, b"  labelled: ", files, token),
-        MeaningRule::M9 => push_where(out, b"  before: ", files, token),
-        MeaningRule::M12 | MeaningRule::M13 => push_where(out, b"  typed: ", files, token),
-        _ => push_where(out, b"  declared: ", files, token),
+        MeaningRule::M4 | MeaningRule::M5 => push_where(out, b"  labelled: ", files, token, b"\n"),
+        MeaningRule::M9 => push_where(out, b"  before: ", files, token, b"\n"),
+        MeaningRule::M12 | MeaningRule::M13 => push_where(out, b"  typed: ", files, token, b"\n"),
+        _ => push_where(out, b"  declared: ", files, token, b"\n"),
     }
 }
 
@@ -450,7 +611,7 @@ pub fn push_stated_at(out: &mut Vec<u8>, files: &[File], token: Token) -> Result
     ensures { OnOk result (out.new.items ≡ out.old.items ++ detail_text
         (stated_at (token_place (map plain_file files.now) (plain_token token.entry)))) }
 {
-    push_where(out, b"  stated: ", files, token)
+    push_where(out, b"  stated: ", files, token, b"\n")
 }
 
 /// Where the block ends in which it stands.
@@ -458,7 +619,7 @@ pub fn push_block_end(out: &mut Vec<u8>, files: &[File], token: Token) -> Result
     ensures { OnOk result (out.new.items ≡ out.old.items ++ detail_text
         (block_ended_at (token_place (map plain_file files.now) (plain_token token.entry)))) }
 {
-    push_where(out, b"  its block ends: ", files, token)
+    push_where(out, b"  its block ends: ", files, token, b"\n")
 }
 
 /// Where a hypothesis of the theorem itself is stated, and its label.

@@ -1,10 +1,10 @@
 //! What is told of a faulty proof: what was asked at the step at fault, and what was found.
 //! It answers `cause_of` and `push_cause`, which make what stands below the head of a message, for
 //! P and L1. It stands on `mm_rules`, `mm_listing`, `mm_places` and `mm_distinct`, and not on the
-//! verdict. Begin with `details`, which has the order of the facts; `disjoint` has the pairs of P11
-//! and P12, `fact_lines` the words of every fact, `fault_places` the places, `suggestion` the label that is
-//! nearest to an unknown one, by the fewest `changes`. What is reported is defined in
-//! `specs/Explained.antt`.
+//! verdict. Begin with `details`, which has the order of the facts; `types` has the types of P9,
+//! `disjoint` the pairs of P11 and P12, `fact_lines` the words of every fact, `fault_places` the
+//! places, `suggestion` the label that is nearest to an unknown one, by the fewest `changes`. What
+//! is reported is defined in `specs/Explained.antt`.
 #![tactic(auto)]
 
 mod changes;
@@ -13,10 +13,12 @@ mod disjoint;
 mod fact_lines;
 mod fault_places;
 mod suggestion;
+mod types;
 
 pub use details::{Cause, cause_of, push_cause, push_left_over};
 pub use fact_lines::{
-    push_block, push_block_end, push_hypothesis_at, push_met, push_stated_at, push_token,
+    push_block, push_block_end, push_hypothesis_at, push_met, push_missing_before, push_stated_at,
+    push_token,
 };
 pub use fault_places::{fault_place, place_among};
 pub use suggestion::Nearest;

@@ -86,7 +86,7 @@ fn width(book: &Book, id: LabelId) -> usize
 {
     match call_of(book, id) {
         Call::Hypothesis(_) => 0,
-        Call::Assertion(scheme) => scheme.hypotheses.len(),
+        Call::Assertion(signature) => signature.hypotheses.len(),
     }
 }
 

@@ -74,7 +74,7 @@ HavePatterns statements variables pieces hypotheses =
     → HasPattern statements variables pieces hypothesis
 
 -- each of these hypotheses of the frame has its pattern in some one list of pieces, as in that of
--- the frame's scheme
+-- the frame's signature
 abbrev pub HaveMandatoryPatterns : FrameIndex → List Hypothesis → Type 0
 HaveMandatoryPatterns frame hypotheses =
     (pieces : List Piece)

@@ -21,7 +21,7 @@ ghost use Rattle.mm_frame.specs.Taken.{TakenAs, kind_behind};
 ghost use Rattle.mm_frame.specs.FrameIndex.{AreFurtherIndices, AreHypotheses, HaveTypings};
 ghost use Rattle.mm_frame.specs.FrameIndex.{ArePairs};
 ghost use Rattle.mm_frame.specs.Pieces.{HaveMandatoryPatterns, HaveMandatoryIndices};
-ghost use Rattle.mm_frame.specs.Mirror.Patterned.{IsSchemeOf};
+ghost use Rattle.mm_frame.specs.Mirror.Patterned.{IsSignatureOf};
 
 use crate::answer::{Found, RuleFault, Taken};
 use crate::breaking::breaking_index;
@@ -34,10 +34,10 @@ use crate::hypothesis::Hypothesis;
 use crate::number::{LabelId, LabelKind, Sym};
 use crate::reads::{
     find_label, find_label_guessed, is_label, is_label_active, label_hypotheses, label_index,
-    label_kind, label_pairs, label_scheme, label_symbols, label_text,
+    label_kind, label_pairs, label_signature, label_symbols, label_text,
 };
 use crate::rule::MeaningRule;
-use crate::scheme::Scheme;
+use crate::signature::Signature;
 use crate::tables::Tables;
 use mm_base::{Seed, Statement, Token};
 use std::alloc::{AllocError, Global};
@@ -369,12 +369,12 @@ impl<'a> Book<'a> {
     }
 
     // What a step by an assertion asks of it.
-    pub(crate) fn scheme(&self, id: LabelId) -> Scheme<'_>
+    pub(crate) fn signature(&self, id: LabelId) -> Signature<'_>
         requires { IsAssertionNumber self.now.statements id.0 }
         ensures { (index : ℕ) (s : Sentence) → IsNumbered self.now.statements id.0 index s
             → IsAssertion s.kind
-            → IsSchemeOf (record { statements = self.now.statements; index = index }) result }
+            → IsSignatureOf (record { statements = self.now.statements; index = index }) result }
     {
-        label_scheme(&self.tables, id)
+        label_signature(&self.tables, id)
     }
 }

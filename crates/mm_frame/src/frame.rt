@@ -18,7 +18,7 @@ use crate::distinct::DistinctPair;
 use crate::hypothesis::Hypothesis;
 use crate::number::{LabelId, Sym};
 use crate::reads::label_index;
-use crate::scheme::Scheme;
+use crate::signature::Signature;
 use std::alloc::{AllocError, Global};
 use std::marker::Model;
 
@@ -47,7 +47,7 @@ impl<'b, 'a> Model for Frame<'b, 'a> {
 
 impl<'b, 'a> Frame<'b, 'a> {
     /// What a step by the assertion asks of it.
-    pub fn scheme(&self) -> Scheme<'b>
+    pub fn signature(&self) -> Signature<'b>
         ensures ids { AreHypotheses self.now (map (λ h. h.id.0) result.hypotheses.now) }
         ensures typed { HaveTypings self.now.statements result.hypotheses.now }
         ensures pairs { ArePairs self.now
@@ -60,10 +60,10 @@ impl<'b, 'a> Frame<'b, 'a> {
         ensures patterns { HavePatterns self.now.statements (variables_of result.hypotheses.now)
             result.pieces.now result.hypotheses.now }
     {
-        self.book.scheme(self.id)
+        self.book.signature(self.id)
     }
 
-    /// The mandatory hypotheses, in database order. They are those of its scheme.
+    /// The mandatory hypotheses, in database order. They are those of its signature.
     pub fn hypotheses(&self) -> &'b [Hypothesis]
         ensures ids { AreHypotheses self.now (map (λ h. h.id.0) result.now) }
         ensures typed { HaveTypings self.now.statements result.now }

@@ -12,7 +12,7 @@ ghost use Rattle.mm_frame.specs.Taken.{kind_behind};
 ghost use Rattle.mm_frame.specs.FrameIndex.{AreHypotheses, HaveTypings, ArePairs};
 ghost use Rattle.mm_frame.specs.Pieces.{variables_of, HavePatterns, HaveMandatoryIndices};
 ghost use Rattle.mm_frame.specs.Mirror.Layout.{AreTables, statements_of};
-ghost use Rattle.mm_frame.specs.Mirror.Patterned.{IsSchemeOf};
+ghost use Rattle.mm_frame.specs.Mirror.Patterned.{IsSignatureOf};
 
 use crate::answer::Found;
 use crate::distinct::DistinctPair;
@@ -20,7 +20,7 @@ use crate::guesses::Guesses;
 use crate::hypothesis::Hypothesis;
 use crate::number::{LabelId, LabelKind, Sym};
 use crate::part::part_of;
-use crate::scheme::Scheme;
+use crate::signature::Signature;
 use crate::tables::Tables;
 use mm_base::Kind;
 
@@ -215,15 +215,15 @@ pub(crate) fn label_pairs<'b>(tables: &'b Tables, id: LabelId) -> &'b [DistinctP
 }
 
 // What a step by an assertion asks of it, by one look at what is known of its label.
-pub(crate) fn label_scheme<'b>(tables: &'b Tables, id: LabelId) -> Scheme<'b>
+pub(crate) fn label_signature<'b>(tables: &'b Tables, id: LabelId) -> Signature<'b>
     requires tables { AreTables tables.now }
     requires assertion { IsAssertionNumber (statements_of tables.now) id.0 }
     ensures { (index : ℕ) (s : Sentence) → IsNumbered (statements_of tables.now) id.0 index s
         → IsAssertion s.kind
-        → IsSchemeOf (record { statements = statements_of tables.now; index = index }) result }
+        → IsSignatureOf (record { statements = statements_of tables.now; index = index }) result }
 {
     match tables.label_info(id) {
-        Some(info) => Scheme {
+        Some(info) => Signature {
             hypotheses: part_of(&tables.hypotheses, info.hypotheses),
             pairs: part_of(&tables.pairs, info.pairs),
             conclusion: part_of(&tables.pieces, info.conclusion),

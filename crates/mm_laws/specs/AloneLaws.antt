@@ -6,7 +6,7 @@ use Rattle.mm_code.specs.Words.{tokens_in}
 use Rattle.mm_frame.specs.Sentence.{sentence_of}
 use Rattle.mm_verdict.specs.Alone.{HasProofTokens, IsTheoremAt}
 use Rattle.mm_verdict.specs.Reply.{line_with}
-use Rattle.mm_check.specs.Reply.{IsKnownFault, IsKnownPrefix, IsKnownReply}
+use Rattle.mm_check.specs.Reply.{IsKnownFault, IsCheckedPrefix, IsKnownReply}
 use Rattle.mm_explain.specs.Reply.{IsTriedFault, IsTriedPrefix, IsTryReply}
 use Rattle.mm_render.specs.Shown.{IsListingText}
 use Rattle.mm_rules.specs.Verdict.{proof_of, sentences}
@@ -21,7 +21,7 @@ TellAlike files before s proof tried tried_status known known_status =
     ((tried ≡ line_with (codes "proof") []) × (tried_status ≡ 0)
     × IsListingText (sentences before) (sentence_of s) (proof_of s) known × (known_status ≡ 0))
     ⊎ ((IsTriedPrefix (sentences before) (sentence_of s) (proof_of s) tried tried_status
-    × IsKnownPrefix (sentences before) (sentence_of s) (proof_of s) known known_status)
+    × IsCheckedPrefix (sentences before) (sentence_of s) (proof_of s) known known_status)
     ⊎ ((t : IsTriedFault proof (sentences before) (sentence_of s) tried tried_status)
     × (k : IsKnownFault files before s known known_status)
     × (t.rule ≡ k.rule) × (t.step ≡ k.step)))

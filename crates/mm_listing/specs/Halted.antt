@@ -39,13 +39,13 @@ pub record IsMadeBy (Fits : Expression → Type 0) (before : List Sentence)
 
 -- The entries of the stack that the moves left, the lowest first, were made by the steps with these
 -- numbers, and each is what that step is listed with.
-pub record AreMakers (Fits : Expression → Type 0) (before : List Sentence)
-    (moves : List (Move (List ℕ))) (stack : List Expression) (makers : List ℕ) : Type 0 where
-  pub count : length makers ≡ length stack
-  pub each : (index step : ℕ) → slice_get makers index ≡ Some step
+pub record AreOrigins (Fits : Expression → Type 0) (before : List Sentence)
+    (moves : List (Move (List ℕ))) (stack : List Expression) (origins : List ℕ) : Type 0 where
+  pub count : length origins ≡ length stack
+  pub each : (index step : ℕ) → slice_get origins index ≡ Some step
       → IsMadeBy Fits before moves index step
   pub given : (steps : List ListedStep) → AreListed before moves steps
-      → (index step : ℕ) → slice_get makers index ≡ Some step
+      → (index step : ℕ) → slice_get origins index ≡ Some step
       → (l : ListedStep) × (slice_get steps (step - 1) ≡ Some l)
       × (slice_get stack index ≡ Some l.expression)
 
@@ -81,8 +81,8 @@ pub record Halts (Fits : Expression → Type 0) (before : List Sentence) (s : Se
   pub stack : List Expression
   pub kept : List Expression
   pub passed : Passed Fits before earlier stack kept
-  pub makers : List ℕ
-  pub made : AreMakers Fits before earlier stack makers
+  pub origins : List ℕ
+  pub made : AreOrigins Fits before earlier stack origins
   pub stops : StopsWith Fits before s prefix stack kept left rule
 
 -- that is where they stop, by numbers for labels and symbols
@@ -91,7 +91,7 @@ pub record HaltsProof (limit : ℕ) (statements : List Sentence) (before : List 
   pub there : Halts (IsWithin limit) before s prefix moves halt.rule
   pub count : halt.passed ≡ length there.earlier
   pub steps : halt.steps ≡ steps_in there.earlier
-  pub same_makers : halt.makers.items ≡ there.makers
+  pub same_origins : halt.origins.items ≡ there.origins
   pub entries : AllZip (AreNumbers statements) halt.entries there.stack
   pub place : StandsAtHalt statements there.left halt.at
 

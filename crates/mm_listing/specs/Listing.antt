@@ -1,6 +1,7 @@
 -- The listing of a proof: what each step is called, and what it puts on the stack (the Metamath
 -- book, sections 4.1.4, 4.3 and 4.4.3, appendix B).
-use Rattle.std.specs.Prelude.{◌≡◌, ℕ, ◌+◌, List, [], ◌∷◌, ◌++◌, length, take, slice_get, Some, true}
+use Rattle.std.specs.Prelude.{◌≡◌, ℕ, ◌+◌, List, [], ◌∷◌, ◌++◌, length, take, slice_get, Some}
+use Rattle.std.specs.Prelude.{Bool, true, false}
 use Rattle.std.specs.List.{AllZip}
 use Rattle.mm_frame.specs.Sentence.{Sentence, IsLabelled}
 use Rattle.mm_frame.specs.Numbers.{labelled_sentences, AreNumbers}
@@ -80,3 +81,26 @@ abbrev pub AreLinesOf : List Sentence → (before : List Sentence) → List (Mov
 AreLinesOf statements before moves lines =
     (steps : List ListedStep) × AreListed before moves steps
     × AllZip (TellsStep statements) lines steps
+
+-- ---- a listing without all expressions
+
+-- the line tells the step, with its expression, or with none
+abbrev pub TellsStepWith : List Sentence → (expressed : Bool) → Line → ListedStep → Type 0
+TellsStepWith statements true line step = TellsStep statements line step
+TellsStepWith statements false line step =
+    IsNameOf statements line.name step.called × (line.expression.items ≡ [])
+
+-- the lines tell the steps, those at the indices that are chosen, from 0 on, with their expressions
+pub record TellSteps (statements : List Sentence) (expressed : ℕ → Bool) (lines : List Line)
+    (steps : List ListedStep) : Type 0 where
+  pub count : length lines ≡ length steps
+  pub each : (index : ℕ) (line : Line) (step : ListedStep) → slice_get lines index ≡ Some line
+      → slice_get steps index ≡ Some step → TellsStepWith statements (expressed index) line step
+
+-- The lines are the listing of the moves, made after the statements before, with the expressions of
+-- those steps alone whose indices are chosen.
+abbrev pub AreLinesWith : List Sentence → (before : List Sentence) → List (Move (List ℕ))
+    → (expressed : ℕ → Bool) → List Line → Type 0
+AreLinesWith statements before moves expressed lines =
+    (steps : List ListedStep) × AreListed before moves steps
+    × TellSteps statements expressed lines steps

@@ -3,5 +3,5 @@
 -- of specs/.
 pub mod CodeHalts
 pub mod CodeLines
-pub mod StackMakers
+pub mod StackOrigins
 pub mod StepUses

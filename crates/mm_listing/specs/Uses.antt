@@ -14,7 +14,7 @@ use Rattle.mm_step.specs.Tree.{AnyExpression, Names}
 use Rattle.mm_step.specs.Moves.{Move, name, again, mark, is_step, steps_in}
 use Rattle.mm_step.specs.Proof.{Passed}
 use Rattle.mm_listing.specs.Listing.{StandsAfter}
-use Rattle.mm_listing.specs.Halted.{AreMakers}
+use Rattle.mm_listing.specs.Halted.{AreOrigins}
 
 -- Something is told of each step of the moves, in order: of the step by a move after others it is
 -- told so.
@@ -47,17 +47,17 @@ AreSources moves sources = AreOfSteps (StandsFor sources) moves sources
 -- left a stack, whose last entries, one for each hypothesis, were made by steps that stand for
 -- them.
 pub record Give (before : List Sentence) (moves : List (Move (List ℕ))) (hypotheses : List Sentence)
-    (givers : List ℕ) : Type 0 where
+    (operands : List ℕ) : Type 0 where
   pub stack : List Expression
   pub kept : List Expression
   pub passed : Passed AnyExpression before moves stack kept
   pub others : List ℕ
-  pub makers : List ℕ
-  pub made : AreMakers AnyExpression before moves stack (others ++ makers)
-  pub paired : length makers ≡ length hypotheses
+  pub origins : List ℕ
+  pub made : AreOrigins AnyExpression before moves stack (others ++ origins)
+  pub paired : length origins ≡ length hypotheses
   pub sources : List ℕ
   pub resolved : AreSources moves sources
-  pub given : AllZip (λ maker giver. slice_get sources (maker - 1) ≡ Some giver) makers givers
+  pub given : AllZip (λ origin operand. slice_get sources (origin - 1) ≡ Some operand) origins operands
 
 -- It is asked who gives the hypothesis at an index: of any, or of each `$e` alone.
 abbrev pub IsAsked : (essential : Bool) → (hypotheses : List Sentence) → (index : ℕ) → Type 0
@@ -72,9 +72,9 @@ abbrev pub IsUsing : (essential : Bool) → List Sentence → (earlier : List (M
 IsUsing essential before earlier (name label) used =
     ((used ≡ []) × SomeActive before (λ h. IsLabelled label h × IsHypothesis h.kind))
     ⊎ ((index : ℕ) × (assertion : Sentence) × (hypotheses : List Sentence)
-    × Names before label index assertion hypotheses × (givers : List ℕ)
-    × Give before earlier hypotheses givers
-    × AreThose (λ i giver. IsAsked essential hypotheses i) 0 givers used)
+    × Names before label index assertion hypotheses × (operands : List ℕ)
+    × Give before earlier hypotheses operands
+    × AreThose (λ i operand. IsAsked essential hypotheses i) 0 operands used)
 IsUsing essential before earlier (again tag) used = used ≡ []
 IsUsing essential before earlier mark used = ⊥
 

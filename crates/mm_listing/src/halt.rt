@@ -67,8 +67,8 @@ pub struct Halt {
     /// The entries that they leave on the stack.
     pub entries: Entries,
     /// For each of these the number of the step that made it, from 1 on.
-    pub makers: Vec<usize>,
-    ghost made: { length entries ≡ length makers.items },
+    pub origins: Vec<usize>,
+    ghost made: { length entries ≡ length origins.items },
     ghost few: { steps < 2 ^ 32 },
 }
 
@@ -77,7 +77,7 @@ impl Halt {
 
     /// The entry at an index of the stack that is left.
     pub fn entry(&self, index: usize) -> &[Sym]
-        requires { index < length self.now.makers.items }
+        requires { index < length self.now.origins.items }
         ensures entry { TellsEntry self.now index (numbers_in result.now) }
         ensures numbers { slice_get self.now.entries index ≡ Some (numbers_in result.now) }
     {

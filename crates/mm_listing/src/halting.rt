@@ -12,11 +12,11 @@ ghost use Rattle.mm_listing.specs.Halted.{HaltsProof};
 ghost use Rattle.mm_proof.specs.Mirror.CodeSteps.{code_move, code_moves, moves_of};
 ghost use Rattle.mm_step.specs.Mirror.CodeRun.{EndsWrong};
 ghost use Rattle.mm_step.specs.Mirror.Sites.{IsSite};
-ghost use Rattle.mm_listing.specs.Mirror.StackMakers.{BreaksAfter};
+ghost use Rattle.mm_listing.specs.Mirror.StackOrigins.{BreaksAfter};
 ghost use Rattle.mm_listing.specs.Mirror.CodeHalts.{StandsBy, HaltsMoves};
 
 use crate::halt::{Entries, Halt, HaltAt};
-use crate::makers::{Stop, track_codes};
+use crate::origins::{Stop, track_codes};
 use mm_code::Code;
 use mm_frame::{Book, LabelId, Sym, one_number};
 use mm_proof::{Steps, calls_of, ending};
@@ -79,7 +79,7 @@ fn halt_at_move(
             passed,
             steps: track.steps,
             entries: Entries::new(store),
-            makers: track.makers,
+            origins: track.origins,
         }),
         Err(Stop::Rule { .. }) => unreachable!(),
         Err(Stop::Memory) => Err(AllocError),
@@ -117,7 +117,7 @@ fn halt_in_frame(
                 passed: codes.len(),
                 steps: track.steps,
                 entries: Entries::new(store),
-                makers: track.makers,
+                origins: track.origins,
             })
         }
         Err(Stop::Rule { rule, passed }) => {

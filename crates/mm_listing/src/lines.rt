@@ -1,7 +1,7 @@
 //! The listing of a proof: its steps, one a line (the Metamath book, section 4.3 and appendix B).
 
 ghost use Rattle.std.specs.Prelude.{◌≡◌, ◌-◌, ◌<◌, ◌≤◌, ◌^◌, ℕ, List, [], All, length, take};
-ghost use Rattle.std.specs.Prelude.{slice_get, Some, Err, false};
+ghost use Rattle.std.specs.Prelude.{slice_get, slice_index_or, Some, Err, false};
 ghost use Rattle.std.specs.Prelude.{IfOk, IfErr, IsOkUnless};
 ghost use Rattle.std.specs.List.{AllByRecursion};
 ghost use Rattle.mm_code.specs.Letters.{HasSpelling};
@@ -14,13 +14,14 @@ ghost use Rattle.mm_proof.specs.Proof.{Prove, IsMovesFault};
 ghost use Rattle.mm_step.specs.Proof.{IsWithin};
 ghost use Rattle.mm_step.specs.Profiles.{limit_of};
 ghost use Rattle.mm_step.specs.Steps.{AreNumberedMoves, AreSteps};
-ghost use Rattle.mm_listing.specs.Listing.{AreLinesOf};
+ghost use Rattle.mm_listing.specs.Listing.{AreLinesOf, AreLinesWith};
 ghost use Rattle.mm_proof.specs.Verified.{OfMoves};
-ghost use Rattle.mm_proof.specs.KnownPrefix.{Pass};
+ghost use Rattle.mm_proof.specs.CheckedPrefix.{Pass};
 ghost use Rattle.mm_proof.specs.Mirror.CodeSteps.{code_moves, moves_of};
 ghost use Rattle.mm_step.specs.Mirror.CodeRun.{MayBeMade, HasRun};
 ghost use Rattle.mm_step.specs.Mirror.Sites.{IsSite};
 ghost use Rattle.mm_listing.specs.Mirror.CodeLines.{AreLinesAt, BreaksAt, ListsProof, FaultsProof};
+ghost use Rattle.mm_listing.specs.Mirror.CodeLines.{expresses, IsLastWhere};
 
 use mm_code::Code;
 use mm_frame::{Book, LabelId, Sym, one_number};
@@ -43,23 +44,61 @@ pub enum Name {
 pub struct Line {
     /// What the step is called.
     pub name: Name,
-    /// The expression that it puts on the stack.
+    /// The expression that it puts on the stack; empty where it is left out.
     pub expression: Vec<Sym>,
 }
 
-// The line of the step that was made last.
-fn last_line<S: Store>(alloc: Global, judge: &Judge<S>, name: Name) -> Result<Line, AllocError>
+/// Which steps are listed with their expressions.
+#[derive(Clone, Copy)]
+pub(crate) struct Expressed<'t> {
+    /// Whether all are.
+    pub(crate) all: bool,
+    /// Else those are whose flags are set, by the order of the steps.
+    pub(crate) flags: &'t [bool],
+}
+
+// Whether the step at an index is listed with its expression.
+fn is_expressed(expressed: Expressed, index: usize) -> bool
+    ensures { result ≡ expresses expressed.entry index }
+{
+    if expressed.all {
+        return true;
+    }
+    match expressed.flags.get(index) {
+        Some(flag) => *flag,
+        None => false,
+    }
+}
+
+// The expression of the step that was made last.
+fn last_expression<S: Store>(alloc: Global, judge: &Judge<S>) -> Result<Vec<Sym>, AllocError>
     requires { 0 < length (S.stack judge.now.store.now) }
-    ensures name { IfOk result (λ line. line.name ≡ name) }
-    ensures expression { let stack = S.stack judge.now.store.now in
-        IfOk result (λ line. slice_get stack (length stack - 1)
-        ≡ Some (numbers_in line.expression.items)) }
+    ensures { let stack = S.stack judge.now.store.now in
+        IfOk result (λ expression. slice_get stack (length stack - 1)
+        ≡ Some (numbers_in expression.items)) }
 {
     let last = judge.store.at(judge.store.len() - 1);
-    Ok(Line {
-        name,
-        expression: Vec::from_slice(alloc, last)?,
-    })
+    Vec::from_slice(alloc, last)
+}
+
+// The line of the step that was made last, with its expression or without.
+fn last_line<S: Store>(
+    alloc: Global,
+    judge: &Judge<S>,
+    name: Name,
+    expressed: bool,
+) -> Result<Line, AllocError>
+    requires { 0 < length (S.stack judge.now.store.now) }
+    ensures name { IfOk result (λ line. line.name ≡ name) }
+    ensures expression { IfOk result (λ line.
+        IsLastWhere expressed (S.stack judge.now.store.now) line.expression.items) }
+{
+    let expression = if expressed {
+        last_expression(alloc, judge)?
+    } else {
+        Vec::new(alloc)
+    };
+    Ok(Line { name, expression })
 }
 
 /// What lists moves while it judges them: the lines of the steps so far, and for each mark the
@@ -69,8 +108,20 @@ fn last_line<S: Store>(alloc: Global, judge: &Judge<S>, name: Name) -> Result<Li
 pub(crate) struct Lister<'s, 'e, 'b, 'a, S> {
     pub(crate) alloc: Global,
     pub(crate) judge: Judge<'s, 'e, 'b, 'a, S>,
+    pub(crate) expressed: Expressed<'s>,
     pub(crate) lines: &'s mut Vec<Line>,
     pub tags: &'s mut Vec<u32>,
+}
+
+impl<'s, 'e, 'b, 'a, S: Store> Lister<'s, 'e, 'b, 'a, S> {
+    ghost use Rattle.std.specs.Prelude.{◌≡◌, length};
+
+    // Whether the next step is listed with its expression.
+    fn expresses_next(&self) -> bool
+        ensures { result ≡ expresses self.now.expressed (length self.now.lines.now.items) }
+    {
+        is_expressed(self.expressed, self.lines.len())
+    }
 }
 
 // It stops where the judge does.
@@ -93,16 +144,18 @@ impl<'s, 'e, 'b, 'a, S: Store> Machine for Lister<'s, 'e, 'b, 'a, S> {
     fn step(&mut self, index: usize) -> Result<(), ProofFault> {
         let table = self.judge.table;
         let id = table.label(index);
+        let expressed = self.expresses_next();
         self.judge.step(index)?;
-        let line = last_line(self.alloc, &self.judge, Name::Label(id))?;
+        let line = last_line(self.alloc, &self.judge, Name::Label(id), expressed)?;
         self.lines.push(line)?;
         Ok(())
     }
 
     fn step_again(&mut self, tag: usize) -> Result<(), ProofFault> {
+        let expressed = self.expresses_next();
         self.judge.step_again(tag)?;
         let after = self.tags[tag];
-        let line = last_line(self.alloc, &self.judge, Name::Step(after))?;
+        let line = last_line(self.alloc, &self.judge, Name::Step(after), expressed)?;
         self.lines.push(line)?;
         Ok(())
     }
@@ -121,6 +174,7 @@ fn lines_of<S: Store>(
     store: &mut S,
     table: &CallTable,
     codes: &[Code],
+    expressed: Expressed,
 ) -> Result<Vec<Line>, ProofFault>
     requires spelled { All HasSpelling codes.now }
     requires usable { let site = table.now.site in
@@ -136,7 +190,7 @@ fn lines_of<S: Store>(
         (code_moves table.now.ids codes.now) (S.stack store.new) (S.kept store.new)
         (length lines.items)) }
     ensures lines { let site = table.now.site in
-        IfOk result (λ lines. AreLinesAt site.statements site.index
+        IfOk result (λ lines. AreLinesAt site.statements (expresses expressed.entry) site.index
         (code_moves table.now.ids codes.now) lines.items) }
     ensures fault { let site = table.now.site in
         (rule : ProofRule) → (at : ℕ) → result ≡ Err (ProofFault.Rule rule at)
@@ -158,6 +212,7 @@ fn lines_of<S: Store>(
     let mut lister = Lister {
         alloc,
         judge,
+        expressed,
         lines: &mut lines,
         tags: &mut tags,
     };
@@ -171,6 +226,7 @@ fn lines_in_frame<S: Store>(
     store: &mut S,
     table: &CallTable,
     codes: &[Code],
+    expressed: Expressed,
 ) -> Result<Vec<Line>, ProofFault>
     requires spelled { All HasSpelling codes.now }
     requires room { length codes.now < 2 ^ 32 }
@@ -180,14 +236,14 @@ fn lines_in_frame<S: Store>(
         AreSteps site.statements site.number (code_moves table.now.ids codes.now) }
     ensures listed { let site = table.now.site in
         IfOk result (λ lines. ListsProof site.limit site.statements site.number
-        (code_moves table.now.ids codes.now) lines.items) }
+        (code_moves table.now.ids codes.now) (expresses expressed.entry) lines.items) }
     ensures fault { let site = table.now.site in
         IfErr result (FaultsProof site.limit site.statements site.number
         (code_moves table.now.ids codes.now)) }
 {
     one_number();
     let expression = table.site.expression();
-    let lines = lines_of(alloc, store, table, codes)?;
+    let lines = lines_of(alloc, store, table, codes, expressed)?;
     ending(store, expression, lines.len() + 1)?;
     Ok(lines)
 }
@@ -200,12 +256,13 @@ fn lines_of_proof(
     entries: &[LabelId],
     codes: &[Code],
     profile: Profile,
+    expressed: Expressed,
 ) -> Result<Vec<Line>, ProofFault>
     requires spelled { All HasSpelling codes.now }
     requires room { length codes.now < 2 ^ 32 }
     requires steps { AreSteps book.now.statements id.0 (moves_of entries.now codes.now) }
     ensures listed { IfOk result (λ lines. ListsProof (limit_of profile) book.now.statements id.0
-        (moves_of entries.now codes.now) lines.items) }
+        (moves_of entries.now codes.now) (expresses expressed.entry) lines.items) }
     ensures fault { IfErr result (FaultsProof (limit_of profile) book.now.statements id.0
         (moves_of entries.now codes.now)) }
     ensures sound { IsSound book.now.statements }
@@ -218,7 +275,43 @@ fn lines_of_proof(
         calls: &calls,
     };
     let mut store = Flat::new(alloc);
-    lines_in_frame(alloc, &mut store, &table, codes)
+    lines_in_frame(alloc, &mut store, &table, codes, expressed)
+}
+
+// The lines of the steps, those with their expressions that are listed so, or the first fault.
+fn lines_of_steps(
+    alloc: Global,
+    book: &Book,
+    id: LabelId,
+    steps: &Steps,
+    expressed: Expressed,
+) -> Result<Vec<Line>, ProofFault>
+    requires steps { AreSteps book.now.statements id.0 steps.now.moves }
+    ensures listed { IfOk result (λ lines. OfMoves book.now.statements id.0 steps.now.moves
+        (λ index s moves. AreLinesWith book.now.statements (take index book.now.statements) moves
+        (expresses expressed.entry) lines.items)) }
+    ensures fault { (rule : ProofRule) → (step : ℕ) → result ≡ Err (ProofFault.Rule rule step)
+        → OfMoves book.now.statements id.0 steps.now.moves
+        (λ index s moves. IsMovesFault (IsWithin (limit_of steps.now.profile))
+        (take index book.now.statements) s moves rule step) }
+    ensures accepts { OfMoves book.now.statements id.0 steps.now.moves
+        (λ index s moves.
+        Prove (IsWithin (limit_of steps.now.profile)) (take index book.now.statements) s moves
+        → IsOkUnless result ProofFault.Memory) }
+    ensures refuses { OfMoves book.now.statements id.0 steps.now.moves
+        (λ index s moves. (rule : ProofRule) → (step : ℕ) → IsMovesFault
+        (IsWithin (limit_of steps.now.profile)) (take index book.now.statements) s moves rule step
+        → IsUnlessMemory result (Err (ProofFault.Rule rule step))) }
+{
+    lines_of_proof(
+        alloc,
+        book,
+        id,
+        &steps.entries,
+        &steps.codes,
+        steps.profile,
+        expressed,
+    )
 }
 
 /// The steps of the `$p` with this number, which these moves prove, in order: what each is called,
@@ -261,7 +354,57 @@ pub fn listing(
         (IsWithin (limit_of steps.now.profile)) (take index book.now.statements) s moves rule step
         → IsUnlessMemory result (Err (ProofFault.Rule rule step))) }
 {
-    lines_of_proof(alloc, book, id, &steps.entries, &steps.codes, steps.profile)
+    let expressed = Expressed {
+        all: true,
+        flags: &[],
+    };
+    lines_of_steps(alloc, book, id, steps, expressed)
+}
+
+/// The same listing, in which the expressions of those steps are left out whose flags aren't set, by
+/// the order of the steps: so it takes memory for what is told.
+///
+/// # Errors
+///
+/// As for `listing`.
+pub fn partial_listing(
+    alloc: Global,
+    book: &Book,
+    id: LabelId,
+    steps: &Steps,
+    told: &[bool],
+) -> Result<Vec<Line>, ProofFault>
+    requires steps { AreSteps book.now.statements id.0 steps.now.moves }
+    requires whole { steps.now.prefix ≡ false }
+    // The lines are those of the steps: each with its name, and where the step is told with the
+    // expression that its tree derives, and with none where it isn't.
+    ensures listed { IfOk result (λ lines. OfMoves book.now.statements id.0 steps.now.moves
+        (λ index s moves. AreLinesWith book.now.statements (take index book.now.statements) moves
+        (λ index. slice_index_or told.now index false) lines.items)) }
+
+    // The rule and the step are those of the first fault.
+    ensures fault { (rule : ProofRule) → (step : ℕ) → result ≡ Err (ProofFault.Rule rule step)
+        → OfMoves book.now.statements id.0 steps.now.moves
+        (λ index s moves. IsMovesFault (IsWithin (limit_of steps.now.profile))
+        (take index book.now.statements) s moves rule step) }
+
+    // What is proved is listed, unless memory is refused.
+    ensures accepts { OfMoves book.now.statements id.0 steps.now.moves
+        (λ index s moves.
+        Prove (IsWithin (limit_of steps.now.profile)) (take index book.now.statements) s moves
+        → IsOkUnless result ProofFault.Memory) }
+
+    // What has a fault is answered with it, unless memory is refused.
+    ensures refuses { OfMoves book.now.statements id.0 steps.now.moves
+        (λ index s moves. (rule : ProofRule) → (step : ℕ) → IsMovesFault
+        (IsWithin (limit_of steps.now.profile)) (take index book.now.statements) s moves rule step
+        → IsUnlessMemory result (Err (ProofFault.Rule rule step))) }
+{
+    let expressed = Expressed {
+        all: false,
+        flags: told,
+    };
+    lines_of_steps(alloc, book, id, steps, expressed)
 }
 
 // The lines of the steps among so many first moves, which pass.
@@ -286,8 +429,12 @@ fn lines_of_front(
         (λ index s moves. AreLinesOf site.statements (take index site.statements)
         (take passed moves) lines.items)) }
 {
+    let expressed = Expressed {
+        all: true,
+        flags: &[],
+    };
     let mut store = Flat::new(alloc);
-    match lines_of(alloc, &mut store, table, &codes[..passed]) {
+    match lines_of(alloc, &mut store, table, &codes[..passed], expressed) {
         Ok(lines) => Ok(lines),
         Err(ProofFault::Memory) => Err(AllocError),
         // These moves pass.

@@ -2,7 +2,8 @@
 
 ghost use Rattle.std.specs.Prelude.{◌≡◌, ◌-◌, ◌<◌, ◌≤◌, ◌↔◌, ◌^◌, ℕ, List, [], All, length};
 ghost use Rattle.std.specs.Prelude.{take, drop};
-ghost use Rattle.std.specs.Prelude.{slice_get, Some, Err, Bool, false, IsTrue, IfOk, IfErr, OnOk};
+ghost use Rattle.std.specs.Prelude.{slice_get, Some, Err, Bool, false, not, IsTrue, IfOk, IfErr};
+ghost use Rattle.std.specs.Prelude.{OnOk};
 ghost use Rattle.std.specs.Prelude.{IsOkUnless};
 ghost use Rattle.std.specs.List.{AllByRecursion};
 ghost use Rattle.mm_code.specs.Letters.{HasSpelling};
@@ -16,20 +17,20 @@ ghost use Rattle.mm_proof.specs.Proof.{Prove, IsMovesFault};
 ghost use Rattle.mm_step.specs.Proof.{IsWithin};
 ghost use Rattle.mm_step.specs.Profiles.{limit_of};
 ghost use Rattle.mm_step.specs.Steps.{AreNumberedMoves, AreSteps};
-ghost use Rattle.mm_listing.specs.Listing.{AreLinesOf};
+ghost use Rattle.mm_listing.specs.Listing.{AreLinesWith};
 ghost use Rattle.mm_proof.specs.Verified.{OfMoves};
 ghost use Rattle.mm_listing.specs.Uses.{AreUses, IsRoot, AreReached, rows_of};
 ghost use Rattle.mm_proof.specs.Mirror.CodeSteps.{code_moves, moves_of};
 ghost use Rattle.mm_step.specs.Mirror.CodeRun.{MayBeMade, HasRun};
-ghost use Rattle.mm_listing.specs.Mirror.CodeLines.{AreLinesAt, BreaksAt, FaultsProof};
+ghost use Rattle.mm_listing.specs.Mirror.CodeLines.{AreLinesAt, BreaksAt, FaultsProof, expresses};
 ghost use Rattle.mm_step.specs.Mirror.Sites.{IsSite};
-ghost use Rattle.mm_listing.specs.Mirror.StackMakers.{AreMakersAt};
+ghost use Rattle.mm_listing.specs.Mirror.StackOrigins.{AreOriginsAt};
 ghost use Rattle.mm_listing.specs.Mirror.StepUses.{sources_of, IsAskedOf, IsAmong, AreNoLater};
 ghost use Rattle.mm_listing.specs.Mirror.StepUses.{AreEarlier, AreSourcesAt, AreUsesAt, LinksProof};
 ghost use Rattle.mm_listing.specs.Mirror.StepUses.{AreSet};
 
-use crate::lines::{Line, Lister};
-use crate::makers::put_maker;
+use crate::lines::{Expressed, Line, Lister};
+use crate::origins::put_origin;
 use mm_code::Code;
 use mm_frame::{Book, LabelId, one_number};
 use mm_proof::machine::run;
@@ -40,7 +41,8 @@ use std::alloc::{AllocError, Global};
 /// The steps of a proof, with what each of them uses.
 #[derive(Drop)]
 pub struct UsedSteps {
-    /// The steps, in order.
+    /// The steps, in order; without their expressions where the operands of `$e` alone were asked
+    /// for.
     pub lines: Vec<Line>,
     /// For each step, the numbers, from 1 on, of the steps that gave it its hypotheses, all by
     /// labels.
@@ -62,7 +64,7 @@ fn is_asked(essential: bool, call: &Call, index: usize) -> bool
     }
     match call {
         Call::Hypothesis(_) => false,
-        Call::Assertion(scheme) => match scheme.hypotheses.get(index) {
+        Call::Assertion(signature) => match signature.hypotheses.get(index) {
             Some(hypothesis) => hypothesis.typing.is_none(),
             None => false,
         },
@@ -71,41 +73,41 @@ fn is_asked(essential: bool, call: &Call, index: usize) -> bool
 
 // Those that give the hypotheses that are asked for, where the steps with these numbers made the
 // entries of all of them.
-fn givers(
+fn operands(
     alloc: Global,
     essential: bool,
     call: &Call,
-    makers: &[usize],
+    origins: &[usize],
     sources: &[usize],
 ) -> Result<Vec<usize>, AllocError>
-    requires { All (IsAmong (length sources.now)) makers.now }
-    ensures { IfOk result (λ used. AreThose (λ i giver. IsAskedOf essential call.now i) 0
-        (sources_of sources.now makers.now) used.items) }
+    requires { All (IsAmong (length sources.now)) origins.now }
+    ensures { IfOk result (λ used. AreThose (λ i operand. IsAskedOf essential call.now i) 0
+        (sources_of sources.now origins.now) used.items) }
 {
     let mut used = Vec::new(alloc);
-    for (index, maker) in makers.iter().enumerate() {
+    for (index, origin) in origins.iter().enumerate() {
         if is_asked(essential, call, index) {
-            used.push(sources[*maker - 1])?;
+            used.push(sources[*origin - 1])?;
         }
     }
     Ok(used)
 }
 
-// The same, where those are the makers from an index on.
-fn last_givers(
+// The same, where those are the origins from an index on.
+fn last_operands(
     alloc: Global,
     essential: bool,
     call: &Call,
-    makers: &[usize],
+    origins: &[usize],
     base: usize,
     sources: &[usize],
 ) -> Result<Vec<usize>, AllocError>
-    requires base { base ≤ length makers.now }
-    requires within { All (IsAmong (length sources.now)) (drop base makers.now) }
-    ensures { IfOk result (λ used. AreThose (λ i giver. IsAskedOf essential call.now i) 0
-        (sources_of sources.now (drop base makers.now)) used.items) }
+    requires base { base ≤ length origins.now }
+    requires within { All (IsAmong (length sources.now)) (drop base origins.now) }
+    ensures { IfOk result (λ used. AreThose (λ i operand. IsAskedOf essential call.now i) 0
+        (sources_of sources.now (drop base origins.now)) used.items) }
 {
-    givers(alloc, essential, call, &makers[base..], sources)
+    operands(alloc, essential, call, &origins[base..], sources)
 }
 
 // The index of the last entry of the stack.
@@ -128,10 +130,10 @@ fn step_before<S: Store>(lister: &Lister<S>, tag: usize) -> usize
 #[derive(Drop)]
 struct Linker<'s, 'e, 'b, 'a, S> {
     lister: Lister<'s, 'e, 'b, 'a, S>,
-    /// Whether the givers of `$e` alone are asked for.
+    /// Whether the operands of `$e` alone are asked for.
     essential: bool,
     /// For each entry of the stack, the number of the step that made it.
-    makers: &'s mut Vec<usize>,
+    origins: &'s mut Vec<usize>,
     /// For each step, the number of the step by a label that it is, or repeats.
     sources: &'s mut Vec<usize>,
     /// For each step, those that it uses.
@@ -162,10 +164,17 @@ impl<'s, 'e, 'b, 'a, S: Store> Machine for Linker<'s, 'e, 'b, 'a, S> {
         let call = table.call(index);
         self.lister.step(index)?;
         let base = last_index(&self.lister.judge);
-        let used = last_givers(alloc, self.essential, call, self.makers, base, self.sources)?;
+        let used = last_operands(
+            alloc,
+            self.essential,
+            call,
+            self.origins,
+            base,
+            self.sources,
+        )?;
         self.uses.push(used)?;
         self.sources.push(self.lister.judge.steps)?;
-        put_maker(&self.lister.judge, self.makers)?;
+        put_origin(&self.lister.judge, self.origins)?;
         Ok(())
     }
 
@@ -176,7 +185,7 @@ impl<'s, 'e, 'b, 'a, S: Store> Machine for Linker<'s, 'e, 'b, 'a, S> {
         let source = self.sources[after - 1];
         self.uses.push(Vec::new(alloc))?;
         self.sources.push(source)?;
-        put_maker(&self.lister.judge, self.makers)?;
+        put_origin(&self.lister.judge, self.origins)?;
         Ok(())
     }
 
@@ -190,7 +199,7 @@ impl<'s, 'e, 'b, 'a, S: Store> Machine for Linker<'s, 'e, 'b, 'a, S> {
 #[derive(Drop)]
 struct Links {
     lines: Vec<Line>,
-    makers: Vec<usize>,
+    origins: Vec<usize>,
     sources: Vec<usize>,
     uses: Vec<Vec<usize>>,
 }
@@ -202,6 +211,7 @@ fn link_codes<S: Store>(
     table: &CallTable,
     codes: &[Code],
     essential: bool,
+    expressed: Expressed,
 ) -> Result<Links, ProofFault>
     requires spelled { All HasSpelling codes.now }
     requires meant { let site = table.now.site in AllMeant (take site.index site.statements) }
@@ -218,11 +228,11 @@ fn link_codes<S: Store>(
         (code_moves table.now.ids codes.now) (S.stack store.new) (S.kept store.new)
         (length links.lines.items)) }
     ensures lines { let site = table.now.site in
-        IfOk result (λ links. AreLinesAt site.statements site.index
+        IfOk result (λ links. AreLinesAt site.statements (expresses expressed.entry) site.index
         (code_moves table.now.ids codes.now) links.lines.items) }
-    ensures makers { let site = table.now.site in
-        IfOk result (λ links. AreMakersAt site.limit site.statements site.index
-        (code_moves table.now.ids codes.now) (S.stack store.new) links.makers.items) }
+    ensures origins { let site = table.now.site in
+        IfOk result (λ links. AreOriginsAt site.limit site.statements site.index
+        (code_moves table.now.ids codes.now) (S.stack store.new) links.origins.items) }
     ensures sources { let site = table.now.site in
         IfOk result (λ links. AreSourcesAt site.statements (code_moves table.now.ids codes.now)
         links.sources.items × AreNoLater links.sources.items) }
@@ -240,7 +250,7 @@ fn link_codes<S: Store>(
     unmark(&mut marks, count)?;
     let mut lines = Vec::new(alloc);
     let mut tags = Vec::new(alloc);
-    let mut makers = Vec::new(alloc);
+    let mut origins = Vec::new(alloc);
     let mut sources = Vec::new(alloc);
     let mut uses = Vec::new(alloc);
     let judge = Judge {
@@ -253,20 +263,21 @@ fn link_codes<S: Store>(
     let lister = Lister {
         alloc,
         judge,
+        expressed,
         lines: &mut lines,
         tags: &mut tags,
     };
     let mut linker = Linker {
         lister,
         essential,
-        makers: &mut makers,
+        origins: &mut origins,
         sources: &mut sources,
         uses: &mut uses,
     };
     run(&mut linker, count, codes)?;
     Ok(Links {
         lines,
-        makers,
+        origins,
         sources,
         uses,
     })
@@ -314,7 +325,11 @@ fn links_in_frame<S: Store>(
 {
     one_number();
     let expression = table.site.expression();
-    let links = link_codes(alloc, store, table, codes, essential)?;
+    let expressed = Expressed {
+        all: !essential,
+        flags: &[],
+    };
+    let links = link_codes(alloc, store, table, codes, essential, expressed)?;
     ending(store, expression, links.lines.len() + 1)?;
     Ok(used_steps(links))
 }
@@ -351,8 +366,9 @@ fn links_of_proof(
 }
 
 /// The steps of the `$p` with this number, which these moves prove, as `listing` tells them; and
-/// for each the steps that gave it its mandatory hypotheses, in their order, or its `$e` alone if
-/// these are asked for. Where a step by a tag put an entry there, it is the step by a label that
+/// for each the steps that gave it its mandatory hypotheses, in their order. If `essential`, its
+/// `$e` alone, and the lines are without their expressions, which `partial_listing` tells of those
+/// steps that are wanted. Where a step by a tag put an entry there, it is the step by a label that
 /// the tag repeats. A step by a tag has none.
 ///
 /// # Errors
@@ -369,8 +385,8 @@ pub fn uses_of(
     requires whole { steps.now.prefix ≡ false }
     // The lines are those of the steps, and the rows what each of them uses.
     ensures used { IfOk result (λ used. OfMoves book.now.statements id.0 steps.now.moves
-        (λ index s moves. AreLinesOf book.now.statements (take index book.now.statements) moves
-        used.lines.items
+        (λ index s moves. AreLinesWith book.now.statements (take index book.now.statements) moves
+        (λ step. not essential) used.lines.items
         × AreUses essential (take index book.now.statements) moves (rows_of used.uses.items)
         × IsRoot moves used.root)) }
 

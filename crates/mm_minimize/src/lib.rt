@@ -10,10 +10,13 @@ mod minimize;
 mod proof_pair;
 mod remarks;
 mod search;
+mod search_watch;
 mod shortening;
 mod shorter_file;
 mod shorter_list;
 
 pub use minimize::{minimized, minimized_by_library, minimized_file, minimized_list};
 pub use search::{OwnSize, Search};
+pub use search_watch::{SearchWatch, Searched};
 pub use shorter_file::Wanted;
+pub use shorter_list::Sizes;

@@ -1,6 +1,6 @@
 //! A search for shorter proofs by what the database has before a theorem.
 
-ghost use Rattle.std.specs.Prelude.{◌≡◌, ◌↔◌, false, max, IsTrue, OnOk};
+ghost use Rattle.std.specs.Prelude.{◌≡◌, ◌↔◌, ◌+◌, false, max, min, ⊤, IfOk, IsTrue, OnOk};
 ghost use Rattle.mm_frame.specs.Numbers.{IsAssertionNumber};
 ghost use Rattle.mm_step.specs.Steps.{AreSteps};
 ghost use Rattle.mm_rules.specs.Conclusion.{numbers_of};
@@ -26,6 +26,8 @@ pub(crate) struct LibrarySearch<'c> {
     kept: &'c Kept,
     remarks: &'c [Remark],
     reach: Reach,
+    /// How many theorems were left, as their proofs are too long to search.
+    pub left: usize,
     /// The proofs stand in database order.
     ghost ordered: { AreRising (numbers_of kept.now) },
 }
@@ -90,6 +92,7 @@ impl<'c> LibrarySearch<'c> {
             kept,
             remarks,
             reach,
+            left: 0,
         }
     }
 
@@ -140,9 +143,25 @@ impl<'c> LibrarySearch<'c> {
         }
         Ok(())
     }
+
+    /// Whether a proof is short enough to search; if not, its theorem is counted as left.
+    fn may_search(&mut self, alloc: Global, book: &Book, steps: &Steps) -> Result<bool, AllocError>
+        ensures passed { self.new.passed ≡ self.old.passed }
+        ensures searched { IfOk result (λ may. IsTrue may → self.new.left ≡ self.old.left) }
+        ensures left { IfOk result (λ may. ¬ (IsTrue may)
+            → self.new.left ≡ min usize.MAX (self.old.left + 1)) }
+    {
+        let is_short = has_few_symbols(alloc, book, steps)?;
+        if !is_short {
+            self.left = self.left.saturating_add(1);
+        }
+        Ok(is_short)
+    }
 }
 
 impl<'c> Search for LibrarySearch<'c> {
+    ghost is_whole = { λ _. ⊤ };
+
     fn candidate(
         &mut self,
         alloc: Global,
@@ -154,11 +173,12 @@ impl<'c> Search for LibrarySearch<'c> {
         requires steps { AreSteps book.now.statements id.0 steps.now.moves }
         requires proved { AreProvedSteps book.now.statements id.0 steps.now }
         requires whole { steps.now.prefix ≡ false }
+        ensures whole { ⊤ → OnOk result ⊤ }
         // A refused growth on the way to the theorem isn't passed over.
         ensures passed { OnOk result (self.new.passed ≡ max self.old.passed id.0) }
     {
         self.pass(book, id)?;
-        if !has_few_symbols(alloc, book, steps)? {
+        if !self.may_search(alloc, book, steps)? {
             return Ok(None);
         }
         let Some(used) = used_by(alloc, book, id, steps)? else {

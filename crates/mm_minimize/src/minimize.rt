@@ -1,6 +1,6 @@
 //! The `minimize` questions of an accepted database.
 
-ghost use Rattle.std.specs.Prelude.{◌≡◌, ◌<◌, List, length, None, IfOk, IfErr};
+ghost use Rattle.std.specs.Prelude.{◌≡◌, ◌<◌, List, length, None, IfOk, IfErr, OnOk};
 ghost use Rattle.mm_rules.specs.declared.ask.AskFault.TheVariants.{Memory};
 ghost use Rattle.mm_base.specs.Statement.{PlainStatement};
 ghost use Rattle.mm_text.specs.Reading.{Reads};
@@ -10,14 +10,16 @@ ghost use Rattle.mm_render.specs.Saved.{FitsSaved};
 ghost use Rattle.mm_render.specs.Shorter.{IsMinimized};
 ghost use Rattle.mm_minimize.specs.AllShorter.{IsAllShortened, IsAllShorterFault, ShorterLine};
 ghost use Rattle.mm_minimize.specs.AllShorter.{AreShorterLines, shorter_text};
+ghost use Rattle.mm_minimize.specs.declared.search_watch.Searched.TheVariants.{Left};
 
 use crate::search::Search;
-use crate::shortening::Shortening;
+use crate::search_watch::{SearchWatch, Searched};
+use crate::shortening::{Minimized, Shortening};
 use crate::shorter_file::{Wanted, shorter_file};
 use crate::shorter_list::shorter_list;
 use mm_rules::AskFault;
 use mm_shorten::Reach;
-use mm_verdict::{Checked, Watch};
+use mm_verdict::Checked;
 use std::alloc::Global;
 
 /// The small text of the shortest proof of the `$p` with this label that is known: of its own,
@@ -40,17 +42,33 @@ pub fn minimized<S: Search>(
         → IsMinimized checked.now.profile checked.now.files statements label.now text.items) }
     ensures fault { IfErr result (λ fault. (statements : List PlainStatement)
         → Reads checked.now.files statements None → IsAskFault statements label.now fault) }
+    ensures whole { S.is_whole search.old → OnOk result (S.is_whole search.new) }
 {
     let theorem = checked.read_theorem(alloc, label)?;
     let shortening = Shortening::new(alloc, checked)?;
-    Ok(shortening.minimized(alloc, &theorem, search)?)
+    let found = shortening.minimized(alloc, &theorem, search)?;
+    Ok(found.text)
 }
 
-/// The same, by a search in what the database has before the theorem.
-pub fn minimized_by_library(
+/// What is told of the search for one theorem, which found this and left so many.
+fn searched_or_left(found: Searched, left: usize) -> Searched
+    ensures left { 0 < left → result ≡ Left left }
+    ensures found { left ≡ 0 → result ≡ found }
+{
+    if left > 0 {
+        Searched::Left(left)
+    } else {
+        found
+    }
+}
+
+/// The same, by a search in what the database has before the theorem. The watch is told what that
+/// came to.
+pub fn minimized_by_library<W: SearchWatch>(
     alloc: Global,
     checked: &Checked,
     label: &[u8],
+    watch: &mut W,
 ) -> Result<Vec<u8>, AskFault>
     ensures text { IfOk result (λ text. (statements : List PlainStatement)
         → Reads checked.now.files statements None
@@ -61,11 +79,14 @@ pub fn minimized_by_library(
     let theorem = checked.read_theorem(alloc, label)?;
     let shortening = Shortening::new(alloc, checked)?;
     let mut search = shortening.search(alloc, Reach::OneMissing);
-    Ok(shortening.minimized(alloc, &theorem, &mut search)?)
+    let Minimized { text, searched } = shortening.minimized(alloc, &theorem, &mut search)?;
+    watch.searched(searched_or_left(searched, search.left));
+    Ok(text)
 }
 
-/// A line for each theorem whose proof becomes shorter, and their sums.
-pub fn minimized_list<W: Watch>(
+/// A line for each theorem whose proof becomes shorter, and their sums. The watch is told after each
+/// theorem how far this has come, and at the end how many were left.
+pub fn minimized_list<W: SearchWatch>(
     alloc: Global,
     checked: &Checked,
     watch: &mut W,
@@ -80,11 +101,14 @@ pub fn minimized_list<W: Watch>(
 {
     let shortening = Shortening::new(alloc, checked)?;
     let mut search = shortening.search(alloc, Reach::OneMissing);
-    shorter_list(alloc, &shortening, &mut search, watch)
+    let list = shorter_list(alloc, &shortening, &mut search, watch);
+    watch.searched(Searched::Left(search.left));
+    list
 }
 
-/// The bytes of a file with each proof replaced that becomes shorter.
-pub fn minimized_file<W: Watch>(
+/// The bytes of a file with each proof replaced that becomes shorter. The watch is told as by
+/// `minimized_list`.
+pub fn minimized_file<W: SearchWatch>(
     alloc: Global,
     checked: &Checked,
     wanted: Wanted,
@@ -103,5 +127,7 @@ pub fn minimized_file<W: Watch>(
 {
     let shortening = Shortening::new(alloc, checked)?;
     let mut search = shortening.search(alloc, Reach::OneMissing);
-    shorter_file(alloc, &shortening, wanted, &mut search, watch)
+    let file = shorter_file(alloc, &shortening, wanted, &mut search, watch);
+    watch.searched(Searched::Left(search.left));
+    file
 }

@@ -1,6 +1,6 @@
 //! A theorem's own proof beside a shorter one.
 
-ghost use Rattle.std.specs.Prelude.{◌≡◌, IfOk, IfErr, IfSome};
+ghost use Rattle.std.specs.Prelude.{◌≡◌, IfOk, IfErr, IfSome, OnOk};
 ghost use Rattle.mm_base.specs.Statement.{plain_statement};
 ghost use Rattle.mm_rules.specs.declared.ask.AskFault.TheVariants.{Memory};
 ghost use Rattle.mm_minimize.specs.Mirror.AllShortening.{IsShorterFor};
@@ -37,6 +37,7 @@ pub(crate) fn shorter_proof<'a, S: Search>(
     ensures shorter { IfOk result (λ found. IfSome found
         (IsShorterFor shortening.now.checked.now id.0 (plain_statement statement.now))) }
     ensures memory { IfErr result (λ fault. fault ≡ Memory) }
+    ensures whole { S.is_whole search.old → OnOk result (S.is_whole search.new) }
 {
     let checked = shortening.checked;
     let theorem = checked.theorem_at(alloc, statement, id)?;

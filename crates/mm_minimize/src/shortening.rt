@@ -2,7 +2,7 @@
 
 ghost use Rattle.std.specs.Prelude.{◌≡◌, ◌↔◌, ◌<◌, ◌≤◌, List, ℕ, map, length, Contains, slice_get, true};
 ghost use Rattle.std.specs.Prelude.{false, IsTrue, IfOk, IfErr, IfSome, Some, None, take};
-ghost use Rattle.std.specs.Prelude.{MatchOption};
+ghost use Rattle.std.specs.Prelude.{MatchOption, OnOk};
 ghost use Rattle.std.specs.List.{AllByRecursion};
 ghost use Rattle.std.specs.Option.{option_to_list};
 ghost use Rattle.mm_base.specs.Statement.{PlainStatement};
@@ -15,7 +15,7 @@ ghost use Rattle.mm_rules.specs.Rests.{AreRising, IsAt};
 ghost use Rattle.mm_render.specs.Shorter.{IsMinimized, IsMarkedWith, proof_mark};
 ghost use Rattle.mm_rules.specs.Mirror.Marks.{UsedIn};
 ghost use Rattle.mm_minimize.specs.Mirror.Shortening.{KnowsDatabase, AreNewlyUsed, IsAllowedIn};
-ghost use Rattle.mm_minimize.specs.Mirror.Shortening.{IsRemarkOf};
+ghost use Rattle.mm_minimize.specs.Mirror.Shortening.{IsRemarkOf, IsSearchedFor};
 ghost use Rattle.mm_minimize.specs.Mirror.Shortening.{IsAllowedProof, IsUnmarkedIn};
 ghost use Rattle.mm_render.specs.Mirror.Shortening.{IsOwnProof};
 ghost use Rattle.mm_minimize.specs.Mirror.Shortening.{IsProvedAnew, IsFound, HaveOneCode, IsJustOne};
@@ -24,6 +24,8 @@ ghost use Rattle.mm_verdict.specs.Mirror.Theorems.{AreProvedSteps, AreStepsOf};
 use crate::library_search::LibrarySearch;
 use crate::remarks::{Remark, may_use, remarks_of};
 use crate::search::{OwnSize, Search};
+use crate::search_watch::Searched;
+use crate::shorter_list::Sizes;
 use mm_axioms::{Tables, is_founded, tables};
 use mm_frame::{Book, LabelId, Sym};
 use mm_render::{Handed, OwnProof, handed_proof, own_proof};
@@ -52,6 +54,15 @@ pub struct Shorter {
     pub proof: OwnProof,
     /// Whether it uses one assertion alone, the syntax aside.
     pub(crate) is_duplicate: bool,
+}
+
+/// The shortest proof of a theorem that is known.
+#[derive(Drop)]
+pub(crate) struct Minimized {
+    /// Its small text.
+    pub text: Vec<u8>,
+    /// What the search for it came to.
+    pub searched: Searched,
 }
 
 /// The type code of a labelled statement.
@@ -94,14 +105,27 @@ fn is_by_one_alone(book: &Book, theorem: LabelId, used: &[LabelId]) -> bool
     some
 }
 
-/// The small text of the shorter proof that was found; of the theorem's own, where none was.
-fn shortest(own: OwnProof, found: Option<Shorter>) -> Vec<u8>
-    ensures { MatchOption found (result.items ≡ own.text.items)
-        (λ new. result.items ≡ new.proof.text.items) }
+/// The shorter proof that was found; the theorem's own, where none was.
+fn shortest(own: OwnProof, found: Option<Shorter>) -> Minimized
+    ensures text { MatchOption found (result.text.items ≡ own.text.items)
+        (λ new. result.text.items ≡ new.proof.text.items) }
+    ensures searched { IsSearchedFor own found result.searched }
 {
     match found {
-        Some(new) => new.proof.text,
-        None => own.text,
+        Some(new) => {
+            let searched = Searched::Shorter {
+                own: Sizes::of(&own),
+                new: Sizes::of(&new.proof),
+            };
+            Minimized {
+                text: new.proof.text,
+                searched,
+            }
+        }
+        None => Minimized {
+            text: own.text,
+            searched: Searched::NoneShorter,
+        },
     }
 }
 
@@ -335,6 +359,7 @@ impl<'c, 'a> Shortening<'c, 'a> {
             → AreStepsOf statements label theorem.now.id.0 theorem.now.steps.moves
             → IsFound self.now.checked.now.profile self.now.checked.now.files statements label
             theorem.now own.now new)) }
+        ensures whole { S.is_whole search.old → OnOk result (S.is_whole search.new) }
     {
         if self.is_settled(theorem.id) {
             return Ok(None);
@@ -351,25 +376,25 @@ impl<'c, 'a> Shortening<'c, 'a> {
         self.shorter(alloc, theorem, own, &text)
     }
 
-    /// The small text of the shortest proof of a theorem that is known: of its own, or of one that
-    /// a search finds.
+    /// The shortest proof of a theorem that is known: its own, or one that a search finds.
     pub(crate) fn minimized<S: Search>(
         &self,
         alloc: Global,
         theorem: &Theorem,
         search: &mut S,
-    ) -> Result<Vec<u8>, AllocError>
+    ) -> Result<Minimized, AllocError>
         requires known { KnowsDatabase self.now }
         requires steps { AreSteps self.now.checked.now.sentences theorem.now.id.0
             theorem.now.steps.moves }
         requires proved { AreProvedSteps self.now.checked.now.sentences theorem.now.id.0
             theorem.now.steps }
         requires whole { theorem.now.steps.prefix ≡ false }
-        ensures { IfOk result (λ text. (label : List ℕ) → (statements : List PlainStatement)
+        ensures text { IfOk result (λ found. (label : List ℕ) → (statements : List PlainStatement)
             → Reads self.now.checked.now.files statements None
             → AreStepsOf statements label theorem.now.id.0 theorem.now.steps.moves
             → IsMinimized self.now.checked.now.profile self.now.checked.now.files statements
-            label text.items) }
+            label found.text.items) }
+        ensures whole { S.is_whole search.old → OnOk result (S.is_whole search.new) }
     {
         let checked = self.checked;
         let own = own_proof(alloc, &checked.book, theorem)?;

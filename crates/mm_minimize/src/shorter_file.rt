@@ -84,6 +84,7 @@ fn text_for<'a, S: Search>(
         → MayStandIn shortening.now.checked.now duplicates bytes (plain_statement statement.now)
         put.items) }
     ensures memory { IfErr result (λ fault. fault ≡ Memory) }
+    ensures whole { S.is_whole search.old → OnOk result (S.is_whole search.new) }
 {
     let found = shorter_proof(alloc, shortening, statement, id, search)?;
     text_of_found(alloc, shortening.checked, duplicates, &found, old)
@@ -109,6 +110,7 @@ fn write_theorem<'a, S: Search>(
     ensures puts { OnOk result (PutsShorter shortening.now.checked.now duplicates
         (plain_statement statement.now) file.old file.new) }
     ensures memory { IfErr result (λ fault. fault ≡ Memory) }
+    ensures whole { S.is_whole search.old → OnOk result (S.is_whole search.new) }
 {
     let span = statement.span;
     let source = file.source;
@@ -133,6 +135,7 @@ fn write_all<'a, S: Search, W: Watch>(
     ensures written { OnOk result (IsAllShortenedIn shortening.now.checked.now wanted.duplicates
         wanted.number file.new) }
     ensures memory { IfErr result (λ fault. fault ≡ Memory) }
+    ensures whole { S.is_whole search.old → OnOk result (S.is_whole search.new) }
 {
     let mut reading = Rereading::new(alloc, shortening.checked)?;
     while let Some(id) = reading.next_theorem(shortening.checked)? {
@@ -183,6 +186,7 @@ pub(crate) fn shorter_file<'a, S: Search, W: Watch>(
         → Reads shortening.now.checked.now.files statements None
         → IsAllShorterFault shortening.now.checked.now.profile wanted.duplicates
         shortening.now.checked.now.files statements wanted.number fault) }
+    ensures whole { S.is_whole search.old → OnOk result (S.is_whole search.new) }
 {
     let mut file = begun_file(alloc, shortening.checked, wanted.number);
     match write_all(alloc, shortening, wanted, search, &mut file, watch) {

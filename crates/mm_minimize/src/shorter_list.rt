@@ -29,11 +29,11 @@ use std::alloc::{AllocError, Global};
 
 /// The sizes of proofs, of one or of several.
 #[derive(Clone, Copy)]
-pub(crate) struct Sizes {
+pub struct Sizes {
     /// How many bytes their small texts have.
-    bytes: usize,
+    pub bytes: usize,
     /// How many steps they have where they are fully shared.
-    steps: usize,
+    pub steps: usize,
 }
 
 /// How many proofs become shorter, and by how much.
@@ -53,7 +53,7 @@ pub struct Listing {
 
 impl Sizes {
     /// The sizes of a proof.
-    fn of(proof: &OwnProof) -> Sizes
+    pub(crate) fn of(proof: &OwnProof) -> Sizes
         ensures bytes { result.bytes ≡ length proof.now.text.items }
         ensures steps { result.steps ≡ proof.now.steps }
     {
@@ -212,6 +212,7 @@ fn list_theorem<'a, S: Search>(
     requires few { list.old.sums.proofs < 2 ^ 62 }
     ensures listed { OnOk result (ListsNext shortening.now.checked.now id.0 list.old list.new) }
     ensures memory { IfErr result (λ fault. fault ≡ Memory) }
+    ensures whole { S.is_whole search.old → OnOk result (S.is_whole search.new) }
 {
     let found = shorter_proof(alloc, shortening, statement, id, search)?;
     list.tell(alloc, shortening, label_of(statement), &found)?;
@@ -231,6 +232,7 @@ fn list_all<'a, S: Search, W: Watch>(
     requires labels { KeepsLabels shortening.now.checked.now.files shortening.now.checked.now }
     ensures listed { OnOk result (IsAllListed shortening.now.checked.now list.new) }
     ensures memory { IfErr result (λ fault. fault ≡ Memory) }
+    ensures whole { S.is_whole search.old → OnOk result (S.is_whole search.new) }
 {
     let mut reading = Rereading::new(alloc, shortening.checked)?;
     while let Some(id) = reading.next_theorem(shortening.checked)? {
@@ -256,6 +258,7 @@ pub(crate) fn shorter_list<'a, S: Search, W: Watch>(
         statements lines
         × (text.items ≡ shorter_text statements lines)) }
     ensures memory { IfErr result (λ fault. fault ≡ Memory) }
+    ensures whole { S.is_whole search.old → OnOk result (S.is_whole search.new) }
 {
     let none = Sizes { bytes: 0, steps: 0 };
     let mut list = Listing {

@@ -1,7 +1,6 @@
 //! Where among its tokens a proof hasn't the strict form.
 
 ghost use Rattle.std.specs.Prelude.{◌≡◌, ◌<◌, ℕ, List, Contains, All, length, take, IfOk, OnOk};
-ghost use Rattle.mm_code.specs.Layout.{texts};
 ghost use Rattle.mm_code.specs.Letters.{HasSpelling};
 ghost use Rattle.mm_frame.specs.Sentence.{Sentence};
 ghost use Rattle.mm_step.specs.Moves.{Move};
@@ -20,7 +19,7 @@ ghost use Rattle.mm_step.specs.Mirror.Sites.{IsSite};
 use crate::places::move_place;
 use mm_base::Token;
 use mm_frame::{Book, LabelId};
-use mm_proof::{Loose, ParseLists, fill_steps, fill_texts, first_loose};
+use mm_proof::{Loose, ParseLists, fill_steps, first_loose};
 use mm_step::{Profile, ProofFault, Site};
 use std::alloc::{AllocError, Global};
 
@@ -47,32 +46,29 @@ fn fill_whole<'a>(
 }
 
 // Where the move with a number stands, which the tokens say.
-fn said_place(alloc: Global, tokens: &[Token], number: usize) -> Result<(usize, usize), AllocError>
+fn said_place(tokens: &[Token], number: usize) -> (usize, usize)
     requires { (before : List Sentence) × (s : Sentence) × (moves : List (Move (List ℕ)))
         × SayMoves before s (token_texts tokens.now) moves × (number < length moves) }
-    ensures { IfOk result (λ place.
-        IsMovePlace (token_texts tokens.now) number place.0 place.1) }
+    ensures { IsMovePlace (token_texts tokens.now) number result.0 result.1 }
 {
-    let mut pieces = Vec::new(alloc);
-    fill_texts(&mut pieces, tokens)?;
-    match move_place(&pieces, number) {
-        Some(place) => Ok(place),
+    match move_place(tokens, number) {
+        Some(place) => place,
         // Each move that the tokens say stands among them.
         None => unreachable!(),
     }
 }
 
 // Where that stands which keeps the tokens from the strict form first.
-fn loose_place(alloc: Global, tokens: &[Token], loose: Loose) -> Result<(usize, usize), AllocError>
+fn loose_place(tokens: &[Token], loose: Loose) -> (usize, usize)
     requires { (before : List Sentence) × (s : Sentence)
         × IsLooseBy before s (token_texts tokens.now) loose }
-    ensures { IfOk result (λ place. (before : List Sentence) (s : Sentence)
+    ensures { (before : List Sentence) (s : Sentence)
         → IsLooseBy before s (token_texts tokens.now) loose
-        → IsFormPlace before s (token_texts tokens.now) place.0 place.1) }
+        → IsFormPlace before s (token_texts tokens.now) result.0 result.1 }
 {
     match loose {
-        Loose::Label(index) => Ok((index + 1, 0)),
-        Loose::Mark(number) => said_place(alloc, tokens, number),
+        Loose::Label(index) => (index + 1, 0),
+        Loose::Mark(number) => said_place(tokens, number),
     }
 }
 
@@ -101,7 +97,7 @@ fn place_with<'a>(
         &lists.codes,
     )?;
     match found {
-        Some(loose) => loose_place(alloc, tokens, loose),
+        Some(loose) => Ok(loose_place(tokens, loose)),
         // Something keeps them from it.
         None => unreachable!(),
     }

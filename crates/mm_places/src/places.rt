@@ -1,16 +1,16 @@
 //! Where a move of a proof stands among its tokens.
 
-ghost use Rattle.std.specs.Prelude.{◌≡◌, ◌<◌, ◌∷◌, ℕ, List, length, take, slice_get, Contains};
-ghost use Rattle.std.specs.Prelude.{false, IfSome, MatchOption, Some};
-ghost use Rattle.mm_code.specs.Layout.{texts};
+ghost use Rattle.std.specs.Prelude.{◌≡◌, ◌<◌, ◌∷◌, ℕ, List, length, false, IfSome, Some};
 ghost use Rattle.mm_frame.specs.Sentence.{Sentence};
 ghost use Rattle.mm_step.specs.Moves.{Move};
-ghost use Rattle.mm_proof.specs.Tokens.{opening_token, closing_token, SayMoves};
-ghost use Rattle.mm_proof.specs.KnownPrefix.{known_prefix};
+ghost use Rattle.mm_step.specs.Plain.{token_texts};
+ghost use Rattle.mm_proof.specs.Tokens.{opening_token, SayMoves};
+ghost use Rattle.mm_proof.specs.CheckedPrefix.{checked_prefix};
 ghost use Rattle.mm_places.specs.Places.{IsMovePlace};
 ghost use Rattle.mm_places.specs.Mirror.CodePlaces.{ended as ended_at, passed, sought, place_in};
 
-use mm_proof::is_byte;
+use mm_base::Token;
+use mm_proof::{begins_list, closing_index};
 
 /// What is found of a code that is sought among letters.
 #[derive(Clone, Copy)]
@@ -64,13 +64,13 @@ fn seek(piece: &[u8], codes: usize, digits: bool) -> Sought
 }
 
 // The piece of the letters in which the code with a number ends, and the byte in it.
-fn code_place(pieces: &[&[u8]], number: usize) -> Option<(usize, usize)>
-    ensures { result ≡ place_in 0 number false (texts pieces.now) }
+fn code_place(pieces: &[Token], number: usize) -> Option<(usize, usize)>
+    ensures { result ≡ place_in 0 number false (token_texts pieces.now) }
 {
     let mut left = number;
     let mut inside = false;
     for (index, piece) in pieces.iter().enumerate() {
-        match seek(piece, left, inside) {
+        match seek(piece.text, left, inside) {
             Sought::At(byte) => return Some((index, byte)),
             Sought::Behind(next, leads) => (left, inside) = (next, leads),
             Sought::Nowhere => return None,
@@ -79,29 +79,12 @@ fn code_place(pieces: &[&[u8]], number: usize) -> Option<(usize, usize)>
     None
 }
 
-// The index of the first `)`.
-fn closing_index(tokens: &[&[u8]]) -> Option<usize>
-    ensures { MatchOption
-        result
-        (¬ (Contains (texts tokens.now) closing_token))
-        (λ index. (index < length tokens.now)
-        × (slice_get (texts tokens.now) index ≡ Some closing_token)
-        × ¬ (Contains (take index (texts tokens.now)) closing_token)) }
-{
-    for (index, token) in tokens.iter().enumerate() {
-        if is_byte(token, b')') {
-            return Some(index);
-        }
-    }
-    None
-}
-
 // Where the move with a number of a compressed proof, whose tokens after the `(` are these, stands.
-fn compressed_place(rest: &[&[u8]], number: usize) -> Option<(usize, usize)>
+fn compressed_place(rest: &[Token], number: usize) -> Option<(usize, usize)>
     ensures place { IfSome result (λ place.
-        IsMovePlace (opening_token ∷ texts rest.now) number place.0 place.1) }
+        IsMovePlace (opening_token ∷ token_texts rest.now) number place.0 place.1) }
     ensures found { (token byte : ℕ)
-        → IsMovePlace (opening_token ∷ texts rest.now) number token byte
+        → IsMovePlace (opening_token ∷ token_texts rest.now) number token byte
         → result ≡ Some (token, byte) }
 {
     let closing = closing_index(rest)?;
@@ -110,14 +93,14 @@ fn compressed_place(rest: &[&[u8]], number: usize) -> Option<(usize, usize)>
 }
 
 // Where the move with a number stands.
-fn place_of(tokens: &[&[u8]], number: usize) -> Option<(usize, usize)>
+fn place_of(tokens: &[Token], number: usize) -> Option<(usize, usize)>
     ensures place { IfSome result (λ place.
-        IsMovePlace (texts tokens.now) number place.0 place.1) }
-    ensures found { (token byte : ℕ) → IsMovePlace (texts tokens.now) number token byte
+        IsMovePlace (token_texts tokens.now) number place.0 place.1) }
+    ensures found { (token byte : ℕ) → IsMovePlace (token_texts tokens.now) number token byte
         → result ≡ Some (token, byte) }
 {
     match tokens {
-        [first, rest @ ..] if is_byte(first, b'(') => compressed_place(rest, number),
+        [_, rest @ ..] if begins_list(tokens) => compressed_place(rest, number),
         _ if number < tokens.len() => Some((number, 0)),
         _ => None,
     }
@@ -125,24 +108,24 @@ fn place_of(tokens: &[&[u8]], number: usize) -> Option<(usize, usize)>
 
 /// Where the move with a number, from 0 on, stands: the index of the token and the byte in it. None
 /// where the tokens have no such move.
-pub fn move_place(tokens: &[&[u8]], number: usize) -> Option<(usize, usize)>
+pub fn move_place(tokens: &[Token], number: usize) -> Option<(usize, usize)>
     // What is found is where the move stands, and it is found where it stands anywhere.
     ensures place { IfSome result (λ place.
-        IsMovePlace (texts tokens.now) number place.0 place.1) }
-    ensures found { (token byte : ℕ) → IsMovePlace (texts tokens.now) number token byte
+        IsMovePlace (token_texts tokens.now) number place.0 place.1) }
+    ensures found { (token byte : ℕ) → IsMovePlace (token_texts tokens.now) number token byte
         → result ≡ Some (token, byte) }
 
     // Each move that the tokens say is found.
     ensures said { (before : List Sentence) → (s : Sentence) → (moves : List (Move (List ℕ)))
-        → SayMoves before s (texts tokens.now) moves → number < length moves
+        → SayMoves before s (token_texts tokens.now) moves → number < length moves
         → (token : ℕ) × (byte : ℕ) × (result ≡ Some (token, byte)) }
 
     // So is each move of the checked prefix of an incomplete proof, where it stands in the prefix.
     ensures known { (token byte : ℕ)
-        → IsMovePlace (known_prefix (texts tokens.now)) number token byte
+        → IsMovePlace (checked_prefix (token_texts tokens.now)) number token byte
         → result ≡ Some (token, byte) }
     ensures known_said { (before : List Sentence) → (s : Sentence) → (moves : List (Move (List ℕ)))
-        → SayMoves before s (known_prefix (texts tokens.now)) moves → number < length moves
+        → SayMoves before s (checked_prefix (token_texts tokens.now)) moves → number < length moves
         → (token : ℕ) × (byte : ℕ) × (result ≡ Some (token, byte)) }
 {
     place_of(tokens, number)

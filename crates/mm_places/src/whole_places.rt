@@ -5,14 +5,13 @@ ghost use Rattle.std.specs.Prelude.{length, take, slice_get, Some, IfOk, IsTrue,
 ghost use Rattle.std.specs.Prelude.{true, false};
 ghost use Rattle.std.specs.List.{flat_map};
 ghost use Rattle.mm_code.specs.declared.code.CodeRule.TheVariants as code;
-ghost use Rattle.mm_code.specs.Layout.{texts};
 ghost use Rattle.mm_code.specs.Letters.{IsLetter, LettersBreak};
 ghost use Rattle.mm_frame.specs.Form.{IsSound};
 ghost use Rattle.mm_frame.specs.Numbers.{IsNumbered};
 ghost use Rattle.mm_frame.specs.Sentence.{Sentence};
 ghost use Rattle.mm_step.specs.declared.profile.Profile.{Profile};
 ghost use Rattle.mm_proof.specs.declared.labels.Use.TheVariants.{Unknown, Idle};
-ghost use Rattle.mm_proof.specs.KnownPrefix.{known_prefix};
+ghost use Rattle.mm_proof.specs.CheckedPrefix.{checked_prefix};
 ghost use Rattle.mm_proof.specs.Parsed.{OfProof};
 ghost use Rattle.mm_step.specs.Plain.{token_texts};
 ghost use Rattle.mm_step.specs.Steps.{IsProofNumber};
@@ -26,7 +25,7 @@ use crate::form_places::form_place;
 use mm_base::Token;
 use mm_code::CodeRule;
 use mm_frame::{Book, Frame, Guesses, LabelId};
-use mm_proof::{Use, begins_list, is_incomplete, known_prefix, parts, tokens_with, use_of};
+use mm_proof::{Use, begins_list, checked_prefix, is_incomplete, parts, use_of};
 use mm_step::ProofRule;
 use std::alloc::{AllocError, Global};
 
@@ -329,34 +328,33 @@ pub fn whole_place(
     alloc: Global,
     book: &Book,
     id: LabelId,
-    tokens: &[&[u8]],
+    tokens: &[Token],
     rule: ProofRule,
 ) -> Result<(usize, usize), AllocError>
     requires proof { (index : ℕ) × (s : Sentence) × IsProofNumber book.now.statements id.0 index s }
-    requires fault { ¬ (IsIncomplete (texts tokens.now)) → OfProof book.now.statements id.0
+    requires fault { ¬ (IsIncomplete (token_texts tokens.now)) → OfProof book.now.statements id.0
         (λ index s. (profile : Profile)
-        × IsTextFault profile (take index book.now.statements) s (texts tokens.now) rule) }
-    requires known_fault { IsIncomplete (texts tokens.now) → OfProof book.now.statements id.0
+        × IsTextFault profile (take index book.now.statements) s (token_texts tokens.now) rule) }
+    requires known_fault { IsIncomplete (token_texts tokens.now) → OfProof book.now.statements id.0
         (λ index s. (profile : Profile) × IsTextFault profile (take index book.now.statements) s
-        (known_prefix (texts tokens.now)) rule) }
+        (checked_prefix (token_texts tokens.now)) rule) }
     // It is where the rule is broken first.
-    ensures place { ¬ (IsIncomplete (texts tokens.now)) → IfOk result (λ place.
+    ensures place { ¬ (IsIncomplete (token_texts tokens.now)) → IfOk result (λ place.
         OfProof book.now.statements id.0 (λ index s. IsWholePlace (take index book.now.statements) s
-        (texts tokens.now) rule place.0 place.1)) }
-    ensures known_place { IsIncomplete (texts tokens.now) → IfOk result (λ place.
+        (token_texts tokens.now) rule place.0 place.1)) }
+    ensures known_place { IsIncomplete (token_texts tokens.now) → IfOk result (λ place.
         OfProof book.now.statements id.0 (λ index s. IsWholePlace (take index book.now.statements) s
-        (known_prefix (texts tokens.now)) rule place.0 place.1)) }
+        (checked_prefix (token_texts tokens.now)) rule place.0 place.1)) }
 
     // It is in one of the tokens.
     ensures within { IfOk result (λ place. (text : List ℕ)
-        × (slice_get (texts tokens.now) place.0 ≡ Some text) × (place.1 ≤ length text)) }
+        × (slice_get (token_texts tokens.now) place.0 ≡ Some text) × (place.1 ≤ length text)) }
 {
     let own = book.frame(id);
-    let tokens = tokens_with(alloc, tokens)?;
-    if is_incomplete(&tokens) {
-        let prefix = known_prefix(alloc, &tokens)?;
+    if is_incomplete(tokens) {
+        let prefix = checked_prefix(alloc, tokens)?;
         place_in(alloc, book, &own, id, &prefix, rule)
     } else {
-        place_in(alloc, book, &own, id, &tokens, rule)
+        place_in(alloc, book, &own, id, tokens, rule)
     }
 }

@@ -2,7 +2,7 @@ pub mod Mirror
 pub mod Sharing
 pub mod Tokens
 pub mod Proof
-pub mod KnownPrefix
+pub mod CheckedPrefix
 pub mod Strict
 pub mod UnderProfile
 pub mod ReadSteps

@@ -13,7 +13,7 @@ use Rattle.mm_proof.specs.Tokens.{SayMoves}
 use Rattle.mm_step.specs.Proof.{IsWithin}
 use Rattle.mm_proof.specs.Proof.{IsWhole, IsProvedWithin, IsMoveFault, IsMovesFault}
 use Rattle.mm_step.specs.Profiles.{limit_of}
-use Rattle.mm_proof.specs.KnownPrefix.{known_prefix, AreAllowed}
+use Rattle.mm_proof.specs.CheckedPrefix.{checked_prefix, AreAllowed}
 use Rattle.mm_proof.specs.Strict.{HasFormOf, IsTextFault}
 
 -- the tokens are a proof of the `$p` under the profile
@@ -52,13 +52,13 @@ HaveFaultUnder profile before s prefix rule step =
 
 -- the known prefix of the tokens breaks no rule under the profile
 abbrev pub IsPrefixAllowedUnder : Profile → List Sentence → Sentence → List (List ℕ) → Type 0
-IsPrefixAllowedUnder profile before s tokens = AreAllowedUnder profile before s (known_prefix tokens)
+IsPrefixAllowedUnder profile before s tokens = AreAllowedUnder profile before s (checked_prefix tokens)
 
 -- the first fault of the known prefix of the tokens under the profile
 abbrev pub IsPrefixFaultUnder : Profile → List Sentence → Sentence → List (List ℕ) → ProofRule → ℕ
     → Type 0
 IsPrefixFaultUnder profile before s tokens rule step =
-    HaveFaultUnder profile before s (known_prefix tokens) rule step
+    HaveFaultUnder profile before s (checked_prefix tokens) rule step
 
 -- where this is right, there is no fault
 abbrev pub HasNoFault : (Right : Type 0) → (Fault : ProofRule → ℕ → Type 0) → Type 0

@@ -16,7 +16,7 @@ ghost use Rattle.mm_step.specs.Moves.{name};
 ghost use Rattle.mm_proof.specs.Proof.{IsWholeFault};
 ghost use Rattle.mm_step.specs.Steps.{AreSteps, IsProofNumber};
 ghost use Rattle.mm_proof.specs.ReadSteps.{ReadSteps};
-ghost use Rattle.mm_proof.specs.KnownPrefix.{known_prefix};
+ghost use Rattle.mm_proof.specs.CheckedPrefix.{checked_prefix};
 ghost use Rattle.mm_proof.specs.Strict.{HasFormOf, IsTextFault};
 ghost use Rattle.mm_proof.specs.Parsed.{OfProof, SaySteps};
 ghost use Rattle.mm_proof.specs.Mirror.CodeSteps.{IsReading, AreFor, moves_of};
@@ -28,7 +28,7 @@ ghost use Rattle.mm_step.specs.Mirror.Sites.{IsSite};
 use crate::form::judge_form;
 use crate::labels::fill_numbers;
 use crate::moves::{Parsed, Steps};
-use crate::prefix::{begins_list, is_byte, is_unknown, known_prefix};
+use crate::prefix::{begins_list, checked_prefix, is_byte, is_unknown};
 use mm_base::Token;
 use mm_code::{Code, CodeFault, CodeRule, fill_codes};
 use mm_frame::{Book, Guesses, Hypothesis, LabelId};
@@ -203,8 +203,8 @@ fn fill_normal(lists: &mut ParseLists, site: &Site, tokens: &[Token]) -> Result<
     Ok(())
 }
 
-// The index of the first `)`.
-fn closing_index(tokens: &[Token]) -> Option<usize>
+/// The index of the first `)`.
+pub fn closing_index(tokens: &[Token]) -> Option<usize>
     ensures { MatchOption
         result
         (¬ (Contains (token_texts tokens.now) closing_token))
@@ -480,34 +480,20 @@ fn prefix_steps(
     requires proof { (index : ℕ) × (s : Sentence) × IsProofNumber book.now.statements id.0 index s }
     requires room { sum_by length (token_texts tokens.now) ≤ most_bytes }
     ensures steps { IfOk result (λ steps. OfProof book.now.statements id.0 (λ index s.
-        SaySteps book.now.statements index s (known_prefix (token_texts tokens.now)) steps.moves)) }
+        SaySteps book.now.statements index s
+        (checked_prefix (token_texts tokens.now)) steps.moves)) }
     ensures usable { IfOk result (λ steps. AreSteps book.now.statements id.0 steps.moves) }
     ensures form { OnOk result (OfProof book.now.statements id.0 (λ index s.
         HasFormOf profile (take index book.now.statements) s
-        (known_prefix (token_texts tokens.now)))) }
+        (checked_prefix (token_texts tokens.now)))) }
     ensures profile { IfOk result (λ steps. steps.profile ≡ profile) }
     ensures prefix { IfOk result (λ steps. steps.prefix ≡ true) }
     ensures fault { IfErr result (λ e. OnRule e (λ rule step. OfProof book.now.statements id.0
         (λ index s. (step ≡ 0) × IsTextFault profile (take index book.now.statements) s
-        (known_prefix (token_texts tokens.now)) rule))) }
+        (checked_prefix (token_texts tokens.now)) rule))) }
 {
-    let prefix = known_prefix(alloc, tokens)?;
+    let prefix = checked_prefix(alloc, tokens)?;
     steps_of(alloc, profile, book, id, &prefix, true)
-}
-
-// Tokens with these texts, which stand nowhere.
-pub fn tokens_with<'a>(alloc: Global, pieces: &[&'a [u8]]) -> Result<Vec<Token<'a>>, AllocError>
-    ensures { IfOk result (λ v. token_texts v.items ≡ texts pieces.now) }
-{
-    let mut tokens = Vec::with_capacity(alloc, pieces.len())?;
-    for text in pieces {
-        tokens.push(Token {
-            text,
-            file: 0,
-            at: 0,
-        })?;
-    }
-    Ok(tokens)
 }
 
 impl Steps {
@@ -520,39 +506,40 @@ impl Steps {
         profile: Profile,
         book: &Book,
         id: LabelId,
-        tokens: &[&[u8]],
+        tokens: &[Token],
     ) -> Result<Parsed, ProofFault>
         requires proof { (index : ℕ) × (s : Sentence)
             × IsProofNumber book.now.statements id.0 index s }
-        requires room { sum_by length (texts tokens.now) ≤ most_bytes }
+        requires room { sum_by length (token_texts tokens.now) ≤ most_bytes }
         // A proof with an unknown step is reported apart.
         ensures incomplete { (steps : ReadSteps) → result ≡ Ok (Parsed.Incomplete steps)
-            → IsIncomplete (texts tokens.now) × (steps.prefix ≡ true) }
+            → IsIncomplete (token_texts tokens.now) × (steps.prefix ≡ true) }
         ensures complete { (steps : ReadSteps) → result ≡ Ok (Parsed.Steps steps)
-            → ¬ (IsIncomplete (texts tokens.now)) × (steps.prefix ≡ false) }
+            → ¬ (IsIncomplete (token_texts tokens.now)) × (steps.prefix ≡ false) }
 
         // The moves are what the tokens say, and each may be made.
         ensures steps { (steps : ReadSteps) → result ≡ Ok (Parsed.Steps steps)
             → OfProof book.now.statements id.0
-            (λ index s. SaySteps book.now.statements index s (texts tokens.now) steps.moves) }
+            (λ index s. SaySteps book.now.statements index s
+            (token_texts tokens.now) steps.moves) }
         ensures usable { (steps : ReadSteps) → result ≡ Ok (Parsed.Steps steps)
             → AreSteps book.now.statements id.0 steps.moves }
 
         // Those of a prefix are what it says, and each may be made.
         ensures known { (steps : ReadSteps) → result ≡ Ok (Parsed.Incomplete steps)
             → OfProof book.now.statements id.0 (λ index s. SaySteps book.now.statements index s
-            (known_prefix (texts tokens.now)) steps.moves) }
+            (checked_prefix (token_texts tokens.now)) steps.moves) }
         ensures known_usable { (steps : ReadSteps) → result ≡ Ok (Parsed.Incomplete steps)
             → AreSteps book.now.statements id.0 steps.moves }
 
         // The proof, or the prefix, has the form that the profile demands.
         ensures form { (steps : ReadSteps) → result ≡ Ok (Parsed.Steps steps)
             → OfProof book.now.statements id.0 (λ index s.
-            HasFormOf profile (take index book.now.statements) s (texts tokens.now)) }
+            HasFormOf profile (take index book.now.statements) s (token_texts tokens.now)) }
         ensures known_form { (steps : ReadSteps) → result ≡ Ok (Parsed.Incomplete steps)
             → OfProof book.now.statements id.0 (λ index s.
             HasFormOf profile (take index book.now.statements) s
-            (known_prefix (texts tokens.now))) }
+            (checked_prefix (token_texts tokens.now))) }
 
         // They are judged under this profile.
         ensures profile { (steps : ReadSteps) → result ≡ Ok (Parsed.Steps steps)
@@ -561,26 +548,26 @@ impl Steps {
             → steps.profile ≡ profile }
 
         // The rule is the first that is broken over the whole proof.
-        ensures fault { ¬ (IsIncomplete (texts tokens.now)) → (rule : ProofRule) → (step : ℕ)
-            → result ≡ Err (ProofFault.Rule rule step)
-            → OfProof book.now.statements id.0 (λ index s. (step ≡ 0)
-            × IsTextFault profile (take index book.now.statements) s (texts tokens.now) rule) }
-
-        // Where a step is unknown, it is the first that is broken over the whole prefix.
-        ensures known_fault { IsIncomplete (texts tokens.now) → (rule : ProofRule) → (step : ℕ)
+        ensures fault { ¬ (IsIncomplete (token_texts tokens.now)) → (rule : ProofRule) → (step : ℕ)
             → result ≡ Err (ProofFault.Rule rule step)
             → OfProof book.now.statements id.0 (λ index s. (step ≡ 0)
             × IsTextFault profile (take index book.now.statements) s
-            (known_prefix (texts tokens.now)) rule) }
+            (token_texts tokens.now) rule) }
+
+        // Where a step is unknown, it is the first that is broken over the whole prefix.
+        ensures known_fault { IsIncomplete (token_texts tokens.now)
+            → (rule : ProofRule) → (step : ℕ) → result ≡ Err (ProofFault.Rule rule step)
+            → OfProof book.now.statements id.0 (λ index s. (step ≡ 0)
+            × IsTextFault profile (take index book.now.statements) s
+            (checked_prefix (token_texts tokens.now)) rule) }
     {
-        let tokens = tokens_with(alloc, tokens)?;
-        if is_incomplete(&tokens) {
-            match prefix_steps(alloc, profile, book, id, &tokens) {
+        if is_incomplete(tokens) {
+            match prefix_steps(alloc, profile, book, id, tokens) {
                 Ok(steps) => Ok(Parsed::Incomplete(steps)),
                 Err(fault) => Err(fault),
             }
         } else {
-            match steps_of(alloc, profile, book, id, &tokens, false) {
+            match steps_of(alloc, profile, book, id, tokens, false) {
                 Ok(steps) => Ok(Parsed::Steps(steps)),
                 Err(fault) => Err(fault),
             }

@@ -6,15 +6,15 @@ ghost use Rattle.std.specs.Prelude.{IsTrue};
 ghost use Rattle.std.specs.List.{position_or_len};
 ghost use Rattle.mm_base.specs.Spelling.{spells};
 ghost use Rattle.mm_proof.specs.Tokens.{is_question, is_unknown, BeginsList};
-ghost use Rattle.mm_proof.specs.KnownPrefix.{begins_list, ends_list};
-ghost use Rattle.mm_proof.specs.KnownPrefix.{known_piece, known_prefix};
+ghost use Rattle.mm_proof.specs.CheckedPrefix.{begins_list, ends_list};
+ghost use Rattle.mm_proof.specs.CheckedPrefix.{known_piece, checked_prefix};
 ghost use Rattle.mm_step.specs.Plain.{token_texts};
 
 use mm_base::Token;
 use std::alloc::{AllocError, Global};
 
 /// Whether the token is the one byte.
-pub fn is_byte(token: &[u8], byte: u8) -> bool
+pub(crate) fn is_byte(token: &[u8], byte: u8) -> bool
     ensures same { IsTrue result ↔ (token.now ≡ byte ∷ []) }
     ensures spelled { result ≡ spells token.now (byte ∷ []) }
 {
@@ -38,7 +38,7 @@ fn question_index(text: &[u8]) -> usize
 }
 
 /// Whether the token holds a `?`.
-pub fn is_unknown(text: &[u8]) -> bool
+pub(crate) fn is_unknown(text: &[u8]) -> bool
     ensures { result ≡ is_unknown text.now }
 {
     text.iter().any(|byte| *byte == b'?')
@@ -106,9 +106,9 @@ fn text_up_to<'a>(
 
 /// The checked prefix of a proof, as the tokens of a proof.
 #[tactic(auto, using(crate::proofs::ProofTokens::QuestionMarks::known_cut))]
-pub fn known_prefix<'a>(alloc: Global, tokens: &[Token<'a>]) -> Result<Vec<Token<'a>>, AllocError>
+pub fn checked_prefix<'a>(alloc: Global, tokens: &[Token<'a>]) -> Result<Vec<Token<'a>>, AllocError>
     ensures { IfOk result (λ prefix.
-        token_texts prefix.items ≡ known_prefix (token_texts tokens.now)) }
+        token_texts prefix.items ≡ checked_prefix (token_texts tokens.now)) }
 {
     let count = known_count(tokens);
     let known = &tokens[..count];

@@ -25,7 +25,7 @@ ghost use Rattle.mm_proof.specs.Verified.{TokensProve};
 ghost use Rattle.mm_step.specs.Plain.{ids_in, token_texts};
 
 use crate::parse::{ParseLists, fill_under, is_incomplete};
-use crate::prefix::known_prefix;
+use crate::prefix::checked_prefix;
 use crate::run::{judgement, pass};
 use mm_base::{Seed, Statement, Token};
 use mm_frame::{Book, LabelId, RuleFault, Taken};
@@ -361,7 +361,7 @@ fn allow_tokens<'a>(
         (token_texts tokens.now) rule step))) }
     ensures named { scratch.new.named ≡ scratch.old.named }
 {
-    let prefix = known_prefix(scratch.alloc, tokens)?;
+    let prefix = checked_prefix(scratch.alloc, tokens)?;
     pass_tokens(scratch, book, id, &prefix, profile)
 }
 

@@ -4,7 +4,7 @@ ghost use Rattle.std.specs.Prelude.{◌≡◌, ℕ, ◌+◌, [], All, length, ta
 ghost use Rattle.std.specs.List.{AllZip};
 ghost use Rattle.mm_code.specs.Letters.{HasSpelling};
 ghost use Rattle.mm_proof.specs.Answer.{OnRule};
-ghost use Rattle.mm_proof.specs.KnownPrefix.{Pass};
+ghost use Rattle.mm_proof.specs.CheckedPrefix.{Pass};
 ghost use Rattle.mm_step.specs.Proof.{IsWithin};
 ghost use Rattle.mm_proof.specs.Proof.{Prove, IsMoveFault};
 ghost use Rattle.mm_step.specs.Steps.{AreSteps};

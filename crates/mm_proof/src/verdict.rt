@@ -6,7 +6,7 @@ ghost use Rattle.mm_proof.specs.Answer.{OnRule, IsUnlessMemory};
 ghost use Rattle.mm_proof.specs.Proof.{Prove, IsMoveFault};
 ghost use Rattle.mm_step.specs.Proof.{IsWithin};
 ghost use Rattle.mm_step.specs.Profiles.{limit_of};
-ghost use Rattle.mm_proof.specs.KnownPrefix.{Pass};
+ghost use Rattle.mm_proof.specs.CheckedPrefix.{Pass};
 ghost use Rattle.mm_step.specs.Steps.{AreSteps};
 ghost use Rattle.mm_frame.specs.Form.{IsSound};
 ghost use Rattle.mm_step.specs.Plain.{ids_in};

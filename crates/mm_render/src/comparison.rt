@@ -3,10 +3,10 @@
 ghost use Rattle.std.specs.Prelude.{◌≡◌, ◌≤◌, ℕ, false, length, take, IfOk, IfErr, OnOk};
 ghost use Rattle.std.specs.List.{sum_by};
 ghost use Rattle.mm_base.specs.MostBytes.{most_bytes};
-ghost use Rattle.mm_code.specs.Layout.{texts};
 ghost use Rattle.mm_code.specs.Words.{tokens_in};
 ghost use Rattle.mm_frame.specs.Sentence.{Sentence};
 ghost use Rattle.mm_proof.specs.Parsed.{OfProof};
+ghost use Rattle.mm_step.specs.Plain.{token_texts};
 ghost use Rattle.mm_step.specs.Steps.{AreSteps, IsProofNumber};
 ghost use Rattle.mm_proof.specs.Strict.{HasFormOf};
 ghost use Rattle.mm_proof.specs.Tokens.{is_incomplete};
@@ -16,6 +16,7 @@ ghost use Rattle.mm_verdict.specs.Mirror.Theorems.{AreProvedSteps};
 ghost use Rattle.mm_render.specs.Mirror.Comparisons.{FailsAs, IsUnproved, IsTextRefused};
 ghost use Rattle.mm_render.specs.Mirror.Comparisons.{IsComparedWith};
 
+use mm_base::Token;
 use mm_forms::same;
 use mm_frame::{Book, LabelId};
 use mm_proof::{Parsed, Steps, verify};
@@ -42,21 +43,22 @@ fn proved_steps(
     profile: Profile,
     book: &Book,
     id: LabelId,
-    tokens: &[&[u8]],
+    tokens: &[Token],
 ) -> Result<Steps, AskFault>
     requires proof { (index : ℕ) × (s : Sentence)
         × IsProofNumber book.now.statements id.0 index s }
-    requires room { sum_by length (texts tokens.now) ≤ most_bytes }
-    requires complete { is_incomplete (texts tokens.now) ≡ false }
+    requires room { sum_by length (token_texts tokens.now) ≤ most_bytes }
+    requires complete { is_incomplete (token_texts tokens.now) ≡ false }
     ensures said { IfOk result (λ steps.
-        SayWholeSteps book.now.statements id.0 (texts tokens.now) steps.moves) }
+        SayWholeSteps book.now.statements id.0 (token_texts tokens.now) steps.moves) }
     ensures form { OnOk result (OfProof book.now.statements id.0 (λ index s.
-        HasFormOf profile (take index book.now.statements) s (texts tokens.now))) }
+        HasFormOf profile (take index book.now.statements) s (token_texts tokens.now))) }
     ensures usable { IfOk result (λ steps. AreSteps book.now.statements id.0 steps.moves) }
     ensures proved { IfOk result (λ steps. AreProvedSteps book.now.statements id.0 steps) }
     ensures profile { IfOk result (λ steps. steps.profile ≡ profile) }
     ensures whole { IfOk result (λ steps. steps.prefix ≡ false) }
-    ensures fault { IfErr result (IsUnproved profile book.now.statements id.0 (texts tokens.now)) }
+    ensures fault { IfErr result
+        (IsUnproved profile book.now.statements id.0 (token_texts tokens.now)) }
 {
     match Steps::parse(alloc, profile, book, id, tokens)? {
         Parsed::Steps(steps) => {

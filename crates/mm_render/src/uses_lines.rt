@@ -1,22 +1,20 @@
 //! The lines of `mm show --uses`: the steps that each step of a proof uses.
 
 ghost use Rattle.std.specs.Prelude.{◌≡◌, ◌++◌, List, ℕ, take, length, replicate, true, false};
-ghost use Rattle.std.specs.Prelude.{OnOk, IfOk, IfErr};
-ghost use Rattle.std.specs.List.{AllZip};
-ghost use Rattle.mm_listing.specs.Listing.{ListedStep, TellsStep, AreLinesOf};
+ghost use Rattle.std.specs.Prelude.{OnOk, IfOk, IfErr, slice_index_or, not};
+ghost use Rattle.mm_listing.specs.Listing.{ListedStep, TellsStep, TellSteps, AreLinesWith};
 ghost use Rattle.mm_step.specs.Steps.{AreSteps};
 ghost use Rattle.mm_listing.specs.Uses.{AreUses, IsRoot, rows_of};
 ghost use Rattle.mm_proof.specs.Verified.{OfMoves};
 ghost use Rattle.mm_rules.specs.declared.ask.AskFault.TheVariants.{Memory};
 ghost use Rattle.mm_render.specs.ShownUses.{more_uses_text, used_step_text, used_steps_text};
-ghost use Rattle.mm_render.specs.ShownUses.{AreTold};
 ghost use Rattle.mm_render.specs.ShownUses.{uses_text as text_of_uses};
 ghost use Rattle.mm_verdict.specs.Mirror.Theorems.{AreProvedSteps};
 ghost use Rattle.mm_render.specs.Mirror.Theorems.{IsUsesTextOf};
 
 use crate::listing_lines::push_name;
 use mm_frame::Book;
-use mm_listing::{Line, UsedSteps, uses_of};
+use mm_listing::{Line, UsedSteps, partial_listing, uses_of};
 use mm_rules::{AskFault, push_decimal, push_symbols};
 use mm_step::ProofFault;
 use mm_verdict::Theorem;
@@ -75,12 +73,12 @@ fn text_of(
     uses: &[Vec<usize>],
     told: &[bool],
 ) -> Result<Vec<u8>, AllocError>
-    requires lines { (steps : List ListedStep)
-        × AllZip (TellsStep book.now.statements) lines.now steps }
+    requires lines { (steps : List ListedStep) × TellSteps book.now.statements
+        (λ index. slice_index_or told.now index false) lines.now steps }
     requires uses { length uses.now ≡ length lines.now }
     requires told { length told.now ≡ length lines.now }
-    ensures { IfOk result (λ text. (steps : List ListedStep)
-        → AllZip (TellsStep book.now.statements) lines.now steps
+    ensures { IfOk result (λ text. (steps : List ListedStep) → TellSteps book.now.statements
+        (λ index. slice_index_or told.now index false) lines.now steps
         → text.items ≡ used_steps_text 1 steps (rows_of uses.now) told.now) }
 {
     let mut out = Vec::new(alloc);
@@ -104,18 +102,6 @@ fn all_told(alloc: Global, count: usize) -> Result<Vec<bool>, AllocError>
     Ok(told)
 }
 
-/// Which of the steps are reported.
-fn told_of(alloc: Global, used: &UsedSteps, essential: bool) -> Result<Vec<bool>, AllocError>
-    ensures { IfOk result (λ told.
-        AreTold essential used.now.root (rows_of used.now.uses.items) told.items) }
-{
-    if essential {
-        used.reached(alloc)
-    } else {
-        all_told(alloc, used.uses.len())
-    }
-}
-
 /// The steps of a theorem's proof, with what each of them uses.
 fn used_of(
     alloc: Global,
@@ -128,8 +114,8 @@ fn used_of(
     requires whole { theorem.now.steps.prefix ≡ false }
     ensures used { IfOk result (λ used.
         OfMoves book.now.statements theorem.now.id.0 theorem.now.steps.moves
-        (λ index s moves. AreLinesOf book.now.statements (take index book.now.statements) moves
-        used.lines.items
+        (λ index s moves. AreLinesWith book.now.statements (take index book.now.statements) moves
+        (λ step. not essential) used.lines.items
         × AreUses essential (take index book.now.statements) moves (rows_of used.uses.items)
         × IsRoot moves used.root)) }
     ensures memory { IfErr result (λ fault. fault ≡ Memory) }
@@ -140,6 +126,64 @@ fn used_of(
         // `check` accepted the proof under this profile.
         Err(ProofFault::Rule { .. }) => unreachable!(),
     }
+}
+
+/// The steps of a theorem's proof, with the expressions of those that are reported.
+fn told_lines(
+    alloc: Global,
+    book: &Book,
+    theorem: &Theorem,
+    told: &[bool],
+) -> Result<Vec<Line>, AskFault>
+    requires steps { AreSteps book.now.statements theorem.now.id.0 theorem.now.steps.moves }
+    requires proved { AreProvedSteps book.now.statements theorem.now.id.0 theorem.now.steps }
+    requires whole { theorem.now.steps.prefix ≡ false }
+    ensures listed { IfOk result (λ lines.
+        OfMoves book.now.statements theorem.now.id.0 theorem.now.steps.moves
+        (λ index s moves. AreLinesWith book.now.statements (take index book.now.statements) moves
+        (λ index. slice_index_or told.now index false) lines.items)) }
+    ensures memory { IfErr result (λ fault. fault ≡ Memory) }
+{
+    match partial_listing(alloc, book, theorem.id, &theorem.steps, told) {
+        Ok(lines) => Ok(lines),
+        Err(ProofFault::Memory) => Err(AskFault::Memory),
+        // `check` accepted the proof under this profile.
+        Err(ProofFault::Rule { .. }) => unreachable!(),
+    }
+}
+
+/// The text of all steps.
+fn whole_text(alloc: Global, book: &Book, theorem: &Theorem) -> Result<Vec<u8>, AskFault>
+    requires steps { AreSteps book.now.statements theorem.now.id.0 theorem.now.steps.moves }
+    requires proved { AreProvedSteps book.now.statements theorem.now.id.0 theorem.now.steps }
+    requires whole { theorem.now.steps.prefix ≡ false }
+    ensures text { IfOk result (λ text.
+        OfMoves book.now.statements theorem.now.id.0 theorem.now.steps.moves
+        (λ index s moves.
+        IsUsesTextOf false (take index book.now.statements) moves text.items)) }
+    ensures memory { IfErr result (λ fault. fault ≡ Memory) }
+{
+    let used = used_of(alloc, book, theorem, false)?;
+    let told = all_told(alloc, used.uses.len())?;
+    Ok(text_of(alloc, book, &used.lines, &used.uses, &told)?)
+}
+
+/// The text of the steps that are reached through `$e`. It asks for their expressions alone, once it
+/// is known which they are: those of the others may take far more memory than the text.
+fn essential_text(alloc: Global, book: &Book, theorem: &Theorem) -> Result<Vec<u8>, AskFault>
+    requires steps { AreSteps book.now.statements theorem.now.id.0 theorem.now.steps.moves }
+    requires proved { AreProvedSteps book.now.statements theorem.now.id.0 theorem.now.steps }
+    requires whole { theorem.now.steps.prefix ≡ false }
+    ensures text { IfOk result (λ text.
+        OfMoves book.now.statements theorem.now.id.0 theorem.now.steps.moves
+        (λ index s moves.
+        IsUsesTextOf true (take index book.now.statements) moves text.items)) }
+    ensures memory { IfErr result (λ fault. fault ≡ Memory) }
+{
+    let used = used_of(alloc, book, theorem, true)?;
+    let told = used.reached(alloc)?;
+    let lines = told_lines(alloc, book, theorem, &told)?;
+    Ok(text_of(alloc, book, &lines, &used.uses, &told)?)
 }
 
 /// The text that tells what the steps of a theorem's proof use.
@@ -158,7 +202,9 @@ pub(crate) fn uses_text(
         IsUsesTextOf essential (take index book.now.statements) moves text.items)) }
     ensures memory { IfErr result (λ fault. fault ≡ Memory) }
 {
-    let used = used_of(alloc, book, theorem, essential)?;
-    let told = told_of(alloc, &used, essential)?;
-    Ok(text_of(alloc, book, &used.lines, &used.uses, &told)?)
+    if essential {
+        essential_text(alloc, book, theorem)
+    } else {
+        whole_text(alloc, book, theorem)
+    }
 }

@@ -28,7 +28,7 @@ impl Variables {
 
     /// Whether each variable of the one node's expression and each of the other's are a distinct
     /// pair at the frame's assertion.
-    pub(crate) fn are_apart(
+    pub(crate) fn are_disjoint(
         &mut self,
         book: &Book,
         frame: &Frame,
@@ -43,7 +43,7 @@ impl Variables {
         let others = self.of(nodes.1);
         for variable in self.of(nodes.0) {
             budget.take(others.len());
-            if !is_apart_from_each(frame, *variable, others) {
+            if !is_disjoint_from_each(frame, *variable, others) {
                 return Ok(false);
             }
         }
@@ -77,7 +77,7 @@ impl Variables {
 }
 
 // Whether the variable and each of the others are a distinct pair at the frame's assertion.
-fn is_apart_from_each(frame: &Frame, variable: Sym, others: &[Sym]) -> bool {
+fn is_disjoint_from_each(frame: &Frame, variable: Sym, others: &[Sym]) -> bool {
     for other in others {
         if !frame.distinct(variable, *other) {
             return false;

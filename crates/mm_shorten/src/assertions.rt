@@ -6,7 +6,7 @@ use crate::patterns::{Patterns, Placed};
 use crate::rests::{Grounds, Rests};
 use crate::trie::next_number;
 use mm_base::Seed;
-use mm_frame::{Book, Hypothesis, LabelId, Piece, Scheme, ShortPiece};
+use mm_frame::{Book, Hypothesis, LabelId, Piece, ShortPiece, Signature};
 use std::alloc::{AllocError, Global};
 
 /// Assertions with more mandatory variables aren't used.
@@ -124,22 +124,22 @@ impl Library {
             return Ok(());
         }
         let frame = book.frame(id);
-        let scheme = frame.scheme();
-        if is_too_large(scheme.hypotheses) {
+        let signature = frame.signature();
+        if is_too_large(signature.hypotheses) {
             return Ok(());
         }
-        let essentials = self.essentials_of(&scheme)?;
-        let pieces = pieces_of(self.alloc, scheme.conclusion)?;
-        let conclusion = self.patterns.enter(scheme.hypotheses, &pieces)?;
+        let essentials = self.essentials_of(&signature)?;
+        let pieces = pieces_of(self.alloc, signature.conclusion)?;
+        let conclusion = self.patterns.enter(signature.hypotheses, &pieces)?;
         if concludes_its_own(&conclusion, &essentials) {
             return Ok(());
         }
         let template = Template {
             label: id,
-            hypotheses: scheme.hypotheses.len().min(u32::MAX as usize) as u32,
+            hypotheses: signature.hypotheses.len().min(u32::MAX as usize) as u32,
             conclusion,
             essentials,
-            pairs: pairs_of(self.alloc, &scheme)?,
+            pairs: pairs_of(self.alloc, &signature)?,
             mathbox: entry.mathbox,
         };
         self.put(template)
@@ -167,15 +167,15 @@ impl Library {
         }
     }
 
-    // The `$e` of a scheme, whose patterns are entered.
-    fn essentials_of(&mut self, scheme: &Scheme) -> Result<Vec<Essential>, AllocError> {
+    // The `$e` of a signature, whose patterns are entered.
+    fn essentials_of(&mut self, signature: &Signature) -> Result<Vec<Essential>, AllocError> {
         let mut essentials = Vec::new(self.alloc);
-        for (place, hypothesis) in scheme.hypotheses.iter().enumerate() {
+        for (place, hypothesis) in signature.hypotheses.iter().enumerate() {
             if hypothesis.typing.is_some() {
                 continue;
             }
-            let pieces = pieces_of(self.alloc, scheme.pattern(hypothesis))?;
-            let placed = self.patterns.enter(scheme.hypotheses, &pieces)?;
+            let pieces = pieces_of(self.alloc, signature.pattern(hypothesis))?;
+            let placed = self.patterns.enter(signature.hypotheses, &pieces)?;
             essentials.push(Essential {
                 place: place.min(u32::MAX as usize) as u32,
                 placed,
@@ -231,10 +231,10 @@ fn pieces_of(alloc: Global, stored: &[ShortPiece]) -> Result<Vec<Piece>, AllocEr
     Ok(pieces)
 }
 
-// The mandatory distinct pairs of a scheme, by indices.
-fn pairs_of(alloc: Global, scheme: &Scheme) -> Result<Vec<(u32, u32)>, AllocError> {
-    let mut pairs = Vec::with_capacity(alloc, scheme.pairs.len())?;
-    for pair in scheme.pairs {
+// The mandatory distinct pairs of a signature, by indices.
+fn pairs_of(alloc: Global, signature: &Signature) -> Result<Vec<(u32, u32)>, AllocError> {
+    let mut pairs = Vec::with_capacity(alloc, signature.pairs.len())?;
+    for pair in signature.pairs {
         pairs.push(pair.indices)?;
     }
     Ok(pairs)

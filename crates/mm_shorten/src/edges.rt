@@ -229,7 +229,7 @@ impl<'s, 't, 'b, 'a> Search<'s, 't, 'b, 'a> {
             let theorem = self.theorem;
             if !finds
                 .variables
-                .are_apart(theorem.book, theorem.frame, graph, (one, other), budget)?
+                .are_disjoint(theorem.book, theorem.frame, graph, (one, other), budget)?
             {
                 return Ok(false);
             }

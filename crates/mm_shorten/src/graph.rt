@@ -136,10 +136,10 @@ impl Graph {
     pub fn of_proof(alloc: Global, book: &Book, used: &UsedSteps) -> Result<Shared, AllocError> {
         let mut graph = Graph::new(alloc, book.seed());
         let mut nodes = Vec::with_capacity(alloc, used.lines.len())?;
-        for (line, givers) in used.lines.iter().zip(&used.uses) {
+        for (line, operands) in used.lines.iter().zip(&used.uses) {
             let node = graph.node(&line.expression)?;
             if let Name::Label(id) = line.name {
-                let children = nodes_of(alloc, &nodes, givers)?;
+                let children = nodes_of(alloc, &nodes, operands)?;
                 graph.take_step(book, node, id, children)?;
             }
             nodes.push(node)?;

@@ -3,7 +3,7 @@
 ghost use Rattle.std.specs.Prelude.{◌≡◌, ◌+◌, ◌<◌, ◌↔◌, min, IsTrue, OnOk};
 
 use mm_code::Code;
-use mm_frame::{Book, Piece, Scheme, ShortPiece};
+use mm_frame::{Book, Piece, ShortPiece, Signature};
 use mm_proof::{Steps, calls_of};
 use mm_step::Call;
 use std::alloc::{AllocError, Global};
@@ -41,15 +41,15 @@ impl Lengths {
     fn step(&mut self, call: &Call) -> Result<(), AllocError> {
         let length = match call {
             Call::Hypothesis(expression) => expression.len(),
-            Call::Assertion(scheme) => self.take_hypotheses(scheme),
+            Call::Assertion(signature) => self.take_hypotheses(signature),
         };
         self.push(length)
     }
 
     // Takes the hypotheses of an assertion from the stack, and answers how long its conclusion is.
-    fn take_hypotheses(&mut self, scheme: &Scheme) -> usize {
-        let base = self.stack.len().saturating_sub(scheme.hypotheses.len());
-        let length = length_over(scheme.conclusion, &self.stack[base..]);
+    fn take_hypotheses(&mut self, signature: &Signature) -> usize {
+        let base = self.stack.len().saturating_sub(signature.hypotheses.len());
+        let length = length_over(signature.conclusion, &self.stack[base..]);
         self.stack.truncate(base);
         length
     }

@@ -9,7 +9,7 @@ use crate::apply::apply;
 use crate::fault::{ProofFault, ProofRule};
 use crate::site::Site;
 use crate::store::Store;
-use mm_frame::{Book, LabelId, LabelKind, Scheme, Sym};
+use mm_frame::{Book, LabelId, LabelKind, Signature, Sym};
 
 /// What a label of a proof stands for.
 #[derive(Clone, Copy)]
@@ -17,7 +17,7 @@ pub enum Call<'b> {
     /// A hypothesis, by its symbols.
     Hypothesis(&'b [Sym]),
     /// An assertion.
-    Assertion(Scheme<'b>),
+    Assertion(Signature<'b>),
 }
 
 /// What the label with a number stands for, where it may be used.
@@ -29,7 +29,7 @@ pub fn call_of<'b>(book: &'b Book<'_>, id: LabelId) -> Call<'b>
     }
     match book.kind(id) {
         LabelKind::Floating | LabelKind::Essential => Call::Hypothesis(book.expression(id)),
-        _ => Call::Assertion(book.frame(id).scheme()),
+        _ => Call::Assertion(book.frame(id).signature()),
     }
 }
 
@@ -69,8 +69,8 @@ pub fn step_by<S: Store>(
             store.push(expression)?;
             Ok(())
         }
-        Call::Assertion(scheme) => {
-            apply(store, site.book, &site.own, scheme, site.limit, number)
+        Call::Assertion(signature) => {
+            apply(store, site.book, &site.own, signature, site.limit, number)
         }
     }
 }

@@ -14,14 +14,14 @@ ghost use Rattle.mm_step.specs.Mirror.CodeVerify.{AreDeclaredSymbols, AreStackEn
 ghost use Rattle.mm_step.specs.Mirror.CodeVerify.{EachValues};
 ghost use Rattle.mm_step.specs.Mirror.CodeVerify.{SomePairValues, EachPairValues, pairs_in};
 ghost use Rattle.mm_step.specs.Mirror.CodeVerify.{value_of};
-ghost use Rattle.mm_step.specs.Mirror.CodeVerify.{IsApart, IsApartFromEach, name_at};
+ghost use Rattle.mm_step.specs.Mirror.CodeVerify.{IsDisjoint, IsDisjointFromEach, name_at};
 ghost use Rattle.mm_step.specs.Mirror.CodeVerify.{names_at};
 
 use crate::flat::Flat;
 use crate::store::Store;
 use crate::substitution::value_at;
 use crate::variables::entries_of_variables;
-use mm_frame::{Book, DistinctPair, Frame, Scheme, Sym, one_number};
+use mm_frame::{Book, DistinctPair, Frame, Signature, Sym, one_number};
 
 /// Whether the symbol is one of these.
 #[tactic(auto, using(crate::proofs::ByNumbers::SharedVariables::symbol_steps))]
@@ -76,20 +76,20 @@ fn share_variable(book: &Book, own: &Frame, e: &[Sym], f: &[Sym]) -> bool
 }
 
 // Whether the variable and the symbol are an active pair, if the symbol is a variable.
-fn is_apart(book: &Book, own: &Frame, variable: Sym, symbol: Sym) -> bool
+fn is_disjoint(book: &Book, own: &Frame, variable: Sym, symbol: Sym) -> bool
     requires book { own.now.statements ≡ book.now.statements }
     requires first { variable.0 < length (symbols_of book.now.statements) }
     requires second { symbol.0 < length (symbols_of book.now.statements) }
     ensures { MatchBool
         result
-        (IsApart book.now.statements own.now.index variable.0 symbol.0)
-        (¬ (IsApart book.now.statements own.now.index variable.0 symbol.0)) }
+        (IsDisjoint book.now.statements own.now.index variable.0 symbol.0)
+        (¬ (IsDisjoint book.now.statements own.now.index variable.0 symbol.0)) }
 {
     !book.is_variable(symbol) || own.distinct(variable, symbol)
 }
 
 // Whether the symbol is no variable, or an active pair with each variable of the expression.
-fn is_apart_from_each(book: &Book, own: &Frame, variable: Sym, f: &[Sym]) -> bool
+fn is_disjoint_from_each(book: &Book, own: &Frame, variable: Sym, f: &[Sym]) -> bool
     requires book { own.now.statements ≡ book.now.statements }
     requires first { variable.0 < length (symbols_of book.now.statements) }
     requires second { AreDeclaredSymbols book.now.statements
@@ -97,14 +97,14 @@ fn is_apart_from_each(book: &Book, own: &Frame, variable: Sym, f: &[Sym]) -> boo
         (numbers_in f.now) }
     ensures { MatchBool
         result
-        (IsApartFromEach book.now.statements own.now.index (numbers_in f.now) variable.0)
-        (¬ (IsApartFromEach book.now.statements own.now.index (numbers_in f.now) variable.0)) }
+        (IsDisjointFromEach book.now.statements own.now.index (numbers_in f.now) variable.0)
+        (¬ (IsDisjointFromEach book.now.statements own.now.index (numbers_in f.now) variable.0)) }
 {
     if !book.is_variable(variable) {
         return true;
     }
     for symbol in f {
-        if !is_apart(book, own, variable, *symbol) {
+        if !is_disjoint(book, own, variable, *symbol) {
             return false;
         }
     }
@@ -112,7 +112,7 @@ fn is_apart_from_each(book: &Book, own: &Frame, variable: Sym, f: &[Sym]) -> boo
 }
 
 /// Whether each variable of the one expression and each of the other are an active pair.
-fn are_apart(book: &Book, own: &Frame, e: &[Sym], f: &[Sym]) -> bool
+fn are_disjoint(book: &Book, own: &Frame, e: &[Sym], f: &[Sym]) -> bool
     requires sound { IsSound book.now.statements }
     requires book { own.now.statements ≡ book.now.statements }
     requires first { AreDeclaredSymbols book.now.statements (take own.now.index book.now.statements)
@@ -130,7 +130,7 @@ fn are_apart(book: &Book, own: &Frame, e: &[Sym], f: &[Sym]) -> bool
         (names_at book.now.statements (numbers_in f.now)))) }
 {
     for symbol in e {
-        if !is_apart_from_each(book, own, *symbol, f) {
+        if !is_disjoint_from_each(book, own, *symbol, f) {
             return false;
         }
     }
@@ -169,7 +169,7 @@ fn is_shared_pair<S: Store>(
 }
 
 /// Whether the variables of what replaces two variables are active pairs.
-fn is_apart_pair<S: Store>(
+fn is_disjoint_pair<S: Store>(
     store: &S,
     base: usize,
     book: &Book,
@@ -195,7 +195,7 @@ fn is_apart_pair<S: Store>(
 {
     let e = value_at(store, base, pair.indices.0);
     let f = value_at(store, base, pair.indices.1);
-    are_apart(book, own, e, f)
+    are_disjoint(book, own, e, f)
 }
 
 // Whether what replaces the members of some pair shares a variable: the entries are looked through.
@@ -204,27 +204,28 @@ fn some_pair_shares<S: Store>(
     base: usize,
     book: &Book,
     own: &Frame,
-    scheme: &Scheme,
+    signature: &Signature,
 ) -> bool
     requires sound { IsSound book.now.statements }
     requires book { own.now.statements ≡ book.now.statements }
-    requires indices { HaveIndices (variables_of scheme.now.hypotheses.now) scheme.now.pairs.now }
-    requires entries { base + length scheme.now.hypotheses.now ≡ length (S.stack store.now) }
+    requires indices { HaveIndices (variables_of signature.now.hypotheses.now)
+        signature.now.pairs.now }
+    requires entries { base + length signature.now.hypotheses.now ≡ length (S.stack store.now) }
     requires fits { length (S.stack store.now) < 2 ^ 64 }
     requires symbols { AreStackEntries book.now.statements (take own.now.index book.now.statements)
         (drop base (S.stack store.now)) }
     ensures { let before = take own.now.index book.now.statements in
-        let σ = value_of (variables_of scheme.now.hypotheses.now)
+        let σ = value_of (variables_of signature.now.hypotheses.now)
         (drop base (S.stack store.now)) in
         MatchBool
         result
-        (SomePairValues σ (pairs_in scheme.now.pairs.now) (λ e f.
+        (SomePairValues σ (pairs_in signature.now.pairs.now) (λ e f.
         ¬ (ShareNoVariable before (names_at book.now.statements e)
         (names_at book.now.statements f))))
-        (EachPairValues σ (pairs_in scheme.now.pairs.now) (λ e f.
+        (EachPairValues σ (pairs_in signature.now.pairs.now) (λ e f.
         ShareNoVariable before (names_at book.now.statements e) (names_at book.now.statements f))) }
 {
-    for pair in scheme.pairs {
+    for pair in signature.pairs {
         if is_shared_pair(store, base, book, own, *pair) {
             return true;
         }
@@ -234,32 +235,33 @@ fn some_pair_shares<S: Store>(
 
 // Whether the variables of what replaces the members of each pair are active pairs: the entries are
 // looked through.
-fn each_pair_is_apart<S: Store>(
+fn each_pair_is_disjoint<S: Store>(
     store: &S,
     base: usize,
     book: &Book,
     own: &Frame,
-    scheme: &Scheme,
+    signature: &Signature,
 ) -> bool
     requires sound { IsSound book.now.statements }
     requires book { own.now.statements ≡ book.now.statements }
-    requires indices { HaveIndices (variables_of scheme.now.hypotheses.now) scheme.now.pairs.now }
-    requires entries { base + length scheme.now.hypotheses.now ≡ length (S.stack store.now) }
+    requires indices { HaveIndices (variables_of signature.now.hypotheses.now)
+        signature.now.pairs.now }
+    requires entries { base + length signature.now.hypotheses.now ≡ length (S.stack store.now) }
     requires fits { length (S.stack store.now) < 2 ^ 64 }
     requires symbols { AreStackEntries book.now.statements (take own.now.index book.now.statements)
         (drop base (S.stack store.now)) }
     ensures { let before = take own.now.index book.now.statements in
-        let σ = value_of (variables_of scheme.now.hypotheses.now)
+        let σ = value_of (variables_of signature.now.hypotheses.now)
         (drop base (S.stack store.now)) in
         MatchBool
         result
-        (EachPairValues σ (pairs_in scheme.now.pairs.now) (λ e f.
+        (EachPairValues σ (pairs_in signature.now.pairs.now) (λ e f.
         AreDistinct before (names_at book.now.statements e) (names_at book.now.statements f)))
-        (SomePairValues σ (pairs_in scheme.now.pairs.now) (λ e f.
+        (SomePairValues σ (pairs_in signature.now.pairs.now) (λ e f.
         ¬ (AreDistinct before (names_at book.now.statements e) (names_at book.now.statements f)))) }
 {
-    for pair in scheme.pairs {
-        if !is_apart_pair(store, base, book, own, *pair) {
+    for pair in signature.pairs {
+        if !is_disjoint_pair(store, base, book, own, *pair) {
             return false;
         }
     }
@@ -271,13 +273,14 @@ fn each_pair_is_apart<S: Store>(
 const FEW: usize = 4096;
 
 // Whether it takes more comparisons to look through what replaces the members of the pairs.
-fn takes_many<S: Store>(store: &S, base: usize, scheme: &Scheme) -> bool
-    requires indices { HaveIndices (variables_of scheme.now.hypotheses.now) scheme.now.pairs.now }
-    requires entries { base + length scheme.now.hypotheses.now ≡ length (S.stack store.now) }
+fn takes_many<S: Store>(store: &S, base: usize, signature: &Signature) -> bool
+    requires indices { HaveIndices (variables_of signature.now.hypotheses.now)
+        signature.now.pairs.now }
+    requires entries { base + length signature.now.hypotheses.now ≡ length (S.stack store.now) }
     requires fits { length (S.stack store.now) < 2 ^ 64 }
 {
     let mut comparisons: usize = 0;
-    for pair in scheme.pairs {
+    for pair in signature.pairs {
         let e = value_at(store, base, pair.indices.0);
         let f = value_at(store, base, pair.indices.1);
         comparisons = comparisons.saturating_add(e.len().saturating_mul(f.len()));
@@ -291,14 +294,15 @@ fn takes_many<S: Store>(store: &S, base: usize, scheme: &Scheme) -> bool
 // The entries from the base on, of each its different variables alone, where it takes many comparisons
 // to look through the entries, and there is memory for the lists. With them a step takes as long as
 // its entries are, and as it takes to compare each two different variables of a pair.
-fn listed<S: Store>(store: &S, base: usize, book: &Book, scheme: &Scheme) -> Option<Flat>
-    requires indices { HaveIndices (variables_of scheme.now.hypotheses.now) scheme.now.pairs.now }
-    requires entries { base + length scheme.now.hypotheses.now ≡ length (S.stack store.now) }
+fn listed<S: Store>(store: &S, base: usize, book: &Book, signature: &Signature) -> Option<Flat>
+    requires indices { HaveIndices (variables_of signature.now.hypotheses.now)
+        signature.now.pairs.now }
+    requires entries { base + length signature.now.hypotheses.now ≡ length (S.stack store.now) }
     requires fits { length (S.stack store.now) < 2 ^ 64 }
     ensures { IfSome result (λ entries. AllZip (HasItsVariables book.now.statements)
         (drop base (S.stack store.now)) (⟦<Flat as Store>⟧.stack entries)) }
 {
-    if !takes_many(store, base, scheme) {
+    if !takes_many(store, base, signature) {
         return None;
     }
     entries_of_variables(book.allocator(), store, base, book).ok()
@@ -313,33 +317,34 @@ pub fn has_shared_pair<S: Store>(
     base: usize,
     book: &Book,
     own: &Frame,
-    scheme: &Scheme,
+    signature: &Signature,
 ) -> bool
     requires sound { IsSound book.now.statements }
     requires book { own.now.statements ≡ book.now.statements }
-    requires indices { HaveIndices (variables_of scheme.now.hypotheses.now) scheme.now.pairs.now }
-    requires entries { base + length scheme.now.hypotheses.now ≡ length (S.stack store.now) }
+    requires indices { HaveIndices (variables_of signature.now.hypotheses.now)
+        signature.now.pairs.now }
+    requires entries { base + length signature.now.hypotheses.now ≡ length (S.stack store.now) }
     requires fits { length (S.stack store.now) < 2 ^ 64 }
     requires symbols { AreStackEntries book.now.statements (take own.now.index book.now.statements)
         (drop base (S.stack store.now)) }
     ensures { let before = take own.now.index book.now.statements in
-        let σ = value_of (variables_of scheme.now.hypotheses.now)
+        let σ = value_of (variables_of signature.now.hypotheses.now)
         (drop base (S.stack store.now)) in
         MatchBool
         result
-        (SomePairValues σ (pairs_in scheme.now.pairs.now) (λ e f.
+        (SomePairValues σ (pairs_in signature.now.pairs.now) (λ e f.
         ¬ (ShareNoVariable before (names_at book.now.statements e)
         (names_at book.now.statements f))))
-        (EachPairValues σ (pairs_in scheme.now.pairs.now) (λ e f.
+        (EachPairValues σ (pairs_in signature.now.pairs.now) (λ e f.
         ShareNoVariable before (names_at book.now.statements e) (names_at book.now.statements f))) }
 {
-    match listed(store, base, book, scheme) {
-        Some(entries) => some_pair_shares(&entries, 0, book, own, scheme),
-        None => some_pair_shares(store, base, book, own, scheme),
+    match listed(store, base, book, signature) {
+        Some(entries) => some_pair_shares(&entries, 0, book, own, signature),
+        None => some_pair_shares(store, base, book, own, signature),
     }
 }
 
-// Does as `are_apart_pairs`. It is a call, as few steps have pairs, and the others then take fewer
+// Does as `are_disjoint_pairs`. It is a call, as few steps have pairs, and the others then take fewer
 // instructions.
 #[inline(never)]
 fn all_are_apart<S: Store>(
@@ -347,56 +352,58 @@ fn all_are_apart<S: Store>(
     base: usize,
     book: &Book,
     own: &Frame,
-    scheme: &Scheme,
+    signature: &Signature,
 ) -> bool
     requires sound { IsSound book.now.statements }
     requires book { own.now.statements ≡ book.now.statements }
-    requires indices { HaveIndices (variables_of scheme.now.hypotheses.now) scheme.now.pairs.now }
-    requires entries { base + length scheme.now.hypotheses.now ≡ length (S.stack store.now) }
+    requires indices { HaveIndices (variables_of signature.now.hypotheses.now)
+        signature.now.pairs.now }
+    requires entries { base + length signature.now.hypotheses.now ≡ length (S.stack store.now) }
     requires fits { length (S.stack store.now) < 2 ^ 64 }
     requires symbols { AreStackEntries book.now.statements (take own.now.index book.now.statements)
         (drop base (S.stack store.now)) }
     ensures { let before = take own.now.index book.now.statements in
-        let σ = value_of (variables_of scheme.now.hypotheses.now)
+        let σ = value_of (variables_of signature.now.hypotheses.now)
         (drop base (S.stack store.now)) in
         MatchBool
         result
-        (EachPairValues σ (pairs_in scheme.now.pairs.now) (λ e f.
+        (EachPairValues σ (pairs_in signature.now.pairs.now) (λ e f.
         AreDistinct before (names_at book.now.statements e) (names_at book.now.statements f)))
-        (SomePairValues σ (pairs_in scheme.now.pairs.now) (λ e f.
+        (SomePairValues σ (pairs_in signature.now.pairs.now) (λ e f.
         ¬ (AreDistinct before (names_at book.now.statements e) (names_at book.now.statements f)))) }
 {
-    match listed(store, base, book, scheme) {
-        Some(entries) => each_pair_is_apart(&entries, 0, book, own, scheme),
-        None => each_pair_is_apart(store, base, book, own, scheme),
+    match listed(store, base, book, signature) {
+        Some(entries) => each_pair_is_disjoint(&entries, 0, book, own, signature),
+        None => each_pair_is_disjoint(store, base, book, own, signature),
     }
 }
 
 /// Whether the variables of what replaces the members of each mandatory pair are active pairs. Where
 /// there is no memory for lists of variables, it takes longer.
-pub(crate) fn are_apart_pairs<S: Store>(
+pub(crate) fn are_disjoint_pairs<S: Store>(
     store: &S,
     base: usize,
     book: &Book,
     own: &Frame,
-    scheme: &Scheme,
+    signature: &Signature,
 ) -> bool
     requires sound { IsSound book.now.statements }
     requires book { own.now.statements ≡ book.now.statements }
-    requires indices { HaveIndices (variables_of scheme.now.hypotheses.now) scheme.now.pairs.now }
-    requires entries { base + length scheme.now.hypotheses.now ≡ length (S.stack store.now) }
+    requires indices { HaveIndices (variables_of signature.now.hypotheses.now)
+        signature.now.pairs.now }
+    requires entries { base + length signature.now.hypotheses.now ≡ length (S.stack store.now) }
     requires fits { length (S.stack store.now) < 2 ^ 64 }
     requires symbols { AreStackEntries book.now.statements (take own.now.index book.now.statements)
         (drop base (S.stack store.now)) }
     ensures { let before = take own.now.index book.now.statements in
-        let σ = value_of (variables_of scheme.now.hypotheses.now)
+        let σ = value_of (variables_of signature.now.hypotheses.now)
         (drop base (S.stack store.now)) in
         MatchBool
         result
-        (EachPairValues σ (pairs_in scheme.now.pairs.now) (λ e f.
+        (EachPairValues σ (pairs_in signature.now.pairs.now) (λ e f.
         AreDistinct before (names_at book.now.statements e) (names_at book.now.statements f)))
-        (SomePairValues σ (pairs_in scheme.now.pairs.now) (λ e f.
+        (SomePairValues σ (pairs_in signature.now.pairs.now) (λ e f.
         ¬ (AreDistinct before (names_at book.now.statements e) (names_at book.now.statements f)))) }
 {
-    scheme.pairs.is_empty() || all_are_apart(store, base, book, own, scheme)
+    signature.pairs.is_empty() || all_are_apart(store, base, book, own, signature)
 }

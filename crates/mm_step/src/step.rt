@@ -18,7 +18,7 @@ ghost use Rattle.mm_step.specs.Proof.{SomePair};
 
 use crate::store::Store;
 use crate::substitution::is_said;
-use mm_frame::{Book, Hypothesis, Scheme, ShortPiece, Sym, one_number};
+use mm_frame::{Book, Hypothesis, ShortPiece, Signature, Sym, one_number};
 
 // Whether the expression begins with the symbol.
 fn begins_with(expression: &[Sym], symbol: Sym) -> bool
@@ -111,21 +111,21 @@ pub fn are_equal<S: Store>(
     store: &mut S,
     base: usize,
     book: &Book,
-    scheme: &Scheme,
+    signature: &Signature,
     floating: bool,
 ) -> bool
-    requires typed { HaveTypings book.now.statements scheme.now.hypotheses.now }
-    requires patterns { HavePatterns book.now.statements (variables_of scheme.now.hypotheses.now)
-        scheme.now.pieces.now scheme.now.hypotheses.now }
-    requires entries { base + length scheme.now.hypotheses.now ≡ length (S.stack store.old) }
+    requires typed { HaveTypings book.now.statements signature.now.hypotheses.now }
+    requires patterns { HavePatterns book.now.statements (variables_of signature.now.hypotheses.now)
+        signature.now.pieces.now signature.now.hypotheses.now }
+    requires entries { base + length signature.now.hypotheses.now ≡ length (S.stack store.old) }
     requires fits { length (S.stack store.old) < 2 ^ 64 }
-    requires floating { IsTrue floating → EachIsSome (variables_of scheme.now.hypotheses.now) }
+    requires floating { IsTrue floating → EachIsSome (variables_of signature.now.hypotheses.now) }
     requires below { AllByRecursion (AreBelow book.now.statements) (drop base (S.stack store.old)) }
     ensures equal { (σ : Substitution)
-        → Replaces book.now.statements σ (variables_of scheme.now.hypotheses.now)
+        → Replaces book.now.statements σ (variables_of signature.now.hypotheses.now)
         (drop base (S.stack store.old))
         → (hs : List Sentence)
-        → AreHypothesesOf book.now.statements (label_ids scheme.now.hypotheses.now) hs
+        → AreHypothesesOf book.now.statements (label_ids signature.now.hypotheses.now) hs
         → MatchBool result
         (EachEntry hs (all_names_at book.now.statements (drop base (S.stack store.old)))
         (IsEqual σ))
@@ -138,9 +138,9 @@ pub fn are_equal<S: Store>(
     if floating {
         return true;
     }
-    for (index, hypothesis) in scheme.hypotheses.iter().enumerate() {
+    for (index, hypothesis) in signature.hypotheses.iter().enumerate() {
         if hypothesis.typing.is_none()
-            && !is_said_at(store, base, scheme.pattern(hypothesis), base + index)
+            && !is_said_at(store, base, signature.pattern(hypothesis), base + index)
         {
             return false;
         }

@@ -321,7 +321,7 @@ const COMMANDS_1: [(Command<'static>, Case); 9] = [
     (
         About {
             label: b"b",
-            question: Question::Axioms,
+            question: Question::Axioms { essential: false },
         },
         Case {
             name: "A1, in docs/RULES.md",
@@ -336,7 +336,7 @@ const COMMANDS_1: [(Command<'static>, Case); 9] = [
     (
         About {
             label: b"one",
-            question: Question::Axioms,
+            question: Question::Axioms { essential: false },
         },
         Case {
             name: "A2, in docs/RULES.md",
@@ -371,30 +371,47 @@ fn commands_1(rt: HostRuntime) -> Result<(), Fail> {
 }
 
 /// The next other commands among the examples.
-const COMMANDS_2: [(Command<'static>, Case); 1] = [(
-    About {
-        label: b"p",
-        question: Question::Form {
-            form: Form::Normal,
-            whole: false,
+const COMMANDS_2: [(Command<'static>, Case); 2] = [
+    (
+        About {
+            label: b"p",
+            question: Question::Chain(b"two"),
         },
-    },
-    Case {
-        name: "L2, in docs/RULES.md",
-        files: &[(
-            b"f.mm",
-            &[
-                Text(b"$c e $. $v x y $. fx $f e x $. fy $f e y $. nil $a e $. cat "),
-                Text(b"$a e x y $.\n"),
-                Text(b"p $p e $= ( nil cat )\n"),
-                Text(b"  AABZCBZDBZEBZFBZGBZHBZIBZJBZKBZLBZMB\n"),
-                Text(b"  ZNBZOBZPBZQBZRBZSBZTBZUABZUBBZUCBZUDBZUEB $.\n"),
-            ],
-        )],
-        reply: b"ask L2 p\n",
-        status: 4,
-    },
-)];
+        Case {
+            name: "A4, in docs/RULES.md",
+            files: &[(
+                b"f.mm",
+                &[Text(b"$c a b $. one $a a $. two $a a $.\np $p a $= one $.\n")],
+            )],
+            reply: b"ask A4 p\n",
+            status: 1,
+        },
+    ),
+    (
+        About {
+            label: b"p",
+            question: Question::Form {
+                form: Form::Normal,
+                whole: false,
+            },
+        },
+        Case {
+            name: "L2, in docs/RULES.md",
+            files: &[(
+                b"f.mm",
+                &[
+                    Text(b"$c e $. $v x y $. fx $f e x $. fy $f e y $. nil $a e $. cat "),
+                    Text(b"$a e x y $.\n"),
+                    Text(b"p $p e $= ( nil cat )\n"),
+                    Text(b"  AABZCBZDBZEBZFBZGBZHBZIBZJBZKBZLBZMB\n"),
+                    Text(b"  ZNBZOBZPBZQBZRBZSBZTBZUABZUBBZUCBZUDBZUEB $.\n"),
+                ],
+            )],
+            reply: b"ask L2 p\n",
+            status: 4,
+        },
+    ),
+];
 
 #[test]
 fn commands_2(rt: HostRuntime) -> Result<(), Fail> {

@@ -86,7 +86,7 @@ pub(crate) const LISTED: [Case; 7] = [
 ];
 
 /// What stands before the unknown step breaks no rule.
-pub(crate) const KNOWN_PREFIXES: [Case; 6] = [
+pub(crate) const CHECKED_PREFIXES: [Case; 6] = [
     Case {
         name: "two entries before the unknown step",
         files: &[(

@@ -25,6 +25,8 @@ mod faults;
 #[cfg(test)]
 mod files;
 #[cfg(test)]
+mod finding;
+#[cfg(test)]
 mod form_lines;
 #[cfg(test)]
 mod forms;

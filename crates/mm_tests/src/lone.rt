@@ -425,7 +425,7 @@ h.mm:9:3: P14: the proof proves something else than is stated, in the proof of t
     term ( 0 + 0 )
   but step 1 gives
     term 0
-  they differ at symbol 2: 0 for (
+  they differ at symbol 2: 0 where ( is asked
 ",
             status: 1,
         },

@@ -11,7 +11,7 @@ pub(crate) const AXIOMS: [(Command<'static>, Case); 8] = [
     (
         About {
             label: b"th1",
-            question: Question::Axioms,
+            question: Question::Axioms { essential: false },
         },
         Case {
             name: "the axioms of the demonstration theorem",
@@ -23,7 +23,7 @@ pub(crate) const AXIOMS: [(Command<'static>, Case); 8] = [
     (
         About {
             label: b"th1",
-            question: Question::Axioms,
+            question: Question::Axioms { essential: false },
         },
         Case {
             name: "the axioms of the compressed demonstration theorem",
@@ -35,7 +35,7 @@ pub(crate) const AXIOMS: [(Command<'static>, Case); 8] = [
     (
         About {
             label: b"th1",
-            question: Question::Axioms,
+            question: Question::Axioms { essential: false },
         },
         Case {
             name: "the axioms of a proof that lists one it does not use",
@@ -54,7 +54,7 @@ pub(crate) const AXIOMS: [(Command<'static>, Case); 8] = [
     (
         About {
             label: b"h1",
-            question: Question::Axioms,
+            question: Question::Axioms { essential: false },
         },
         Case {
             name: "a theorem that rests on no incomplete one beside it",
@@ -72,7 +72,7 @@ pub(crate) const AXIOMS: [(Command<'static>, Case); 8] = [
     (
         About {
             label: b"th",
-            question: Question::Axioms,
+            question: Question::Axioms { essential: false },
         },
         Case {
             name: "the axioms of a small theorem",
@@ -84,7 +84,7 @@ pub(crate) const AXIOMS: [(Command<'static>, Case); 8] = [
     (
         About {
             label: b"h1",
-            question: Question::Axioms,
+            question: Question::Axioms { essential: false },
         },
         Case {
             name: "a theorem that rests on nothing",
@@ -96,7 +96,7 @@ pub(crate) const AXIOMS: [(Command<'static>, Case); 8] = [
     (
         About {
             label: b"th3",
-            question: Question::Axioms,
+            question: Question::Axioms { essential: false },
         },
         Case {
             name: "the axioms of a theorem that uses the demonstration theorem",
@@ -111,7 +111,7 @@ pub(crate) const AXIOMS: [(Command<'static>, Case); 8] = [
     (
         About {
             label: b"th2",
-            question: Question::Axioms,
+            question: Question::Axioms { essential: false },
         },
         Case {
             name: "a theorem that lists its own hypothesis rests on nothing",
@@ -130,7 +130,7 @@ pub(crate) const UNPROVED: [(Command<'static>, Case); 5] = [
     (
         About {
             label: b"u2",
-            question: Question::Axioms,
+            question: Question::Axioms { essential: false },
         },
         Case {
             name: "the axioms of a theorem that rests on an unknown step",
@@ -148,7 +148,7 @@ pub(crate) const UNPROVED: [(Command<'static>, Case); 5] = [
     (
         About {
             label: b"u2",
-            question: Question::Axioms,
+            question: Question::Axioms { essential: false },
         },
         Case {
             name: "the axioms of a theorem that rests on an unknown step before a bracket",
@@ -166,7 +166,7 @@ pub(crate) const UNPROVED: [(Command<'static>, Case); 5] = [
     (
         About {
             label: b"u2",
-            question: Question::Axioms,
+            question: Question::Axioms { essential: false },
         },
         Case {
             name: "the axioms of a theorem that rests on an unknown step in a list of labels",
@@ -184,7 +184,7 @@ pub(crate) const UNPROVED: [(Command<'static>, Case); 5] = [
     (
         About {
             label: b"u2",
-            question: Question::Axioms,
+            question: Question::Axioms { essential: false },
         },
         Case {
             name: "axioms and an unproved theorem",
@@ -203,7 +203,7 @@ pub(crate) const UNPROVED: [(Command<'static>, Case); 5] = [
     (
         About {
             label: b"u3",
-            question: Question::Axioms,
+            question: Question::Axioms { essential: false },
         },
         Case {
             name: "axioms and an unproved theorem, through another theorem",
@@ -226,7 +226,7 @@ pub(crate) const AXIOMS_UNANSWERED: [(Command<'static>, Case); 7] = [
     (
         About {
             label: b"u1",
-            question: Question::Axioms,
+            question: Question::Axioms { essential: false },
         },
         Case {
             name: "the axioms of a theorem that is an unknown step",
@@ -244,7 +244,7 @@ pub(crate) const AXIOMS_UNANSWERED: [(Command<'static>, Case); 7] = [
     (
         About {
             label: b"u1",
-            question: Question::Axioms,
+            question: Question::Axioms { essential: false },
         },
         Case {
             name: "the axioms of a theorem that is an unknown step before a bracket",
@@ -262,7 +262,7 @@ pub(crate) const AXIOMS_UNANSWERED: [(Command<'static>, Case); 7] = [
     (
         About {
             label: b"u1",
-            question: Question::Axioms,
+            question: Question::Axioms { essential: false },
         },
         Case {
             name: "the axioms of a theorem that is an unknown step in a list of labels",
@@ -280,7 +280,7 @@ pub(crate) const AXIOMS_UNANSWERED: [(Command<'static>, Case); 7] = [
     (
         About {
             label: b"none",
-            question: Question::Axioms,
+            question: Question::Axioms { essential: false },
         },
         Case {
             name: "the axioms of a label that is not there",
@@ -292,7 +292,7 @@ pub(crate) const AXIOMS_UNANSWERED: [(Command<'static>, Case); 7] = [
     (
         About {
             label: b"a1",
-            question: Question::Axioms,
+            question: Question::Axioms { essential: false },
         },
         Case {
             name: "the axioms of an axiom",
@@ -304,7 +304,7 @@ pub(crate) const AXIOMS_UNANSWERED: [(Command<'static>, Case); 7] = [
     (
         About {
             label: b"min",
-            question: Question::Axioms,
+            question: Question::Axioms { essential: false },
         },
         Case {
             name: "the axioms of a hypothesis",
@@ -316,7 +316,7 @@ pub(crate) const AXIOMS_UNANSWERED: [(Command<'static>, Case); 7] = [
     (
         About {
             label: b"wff",
-            question: Question::Axioms,
+            question: Question::Axioms { essential: false },
         },
         Case {
             name: "the axioms of a symbol",
@@ -332,7 +332,7 @@ pub(crate) const AXIOMS_REFUSED: [(Command<'static>, Case); 3] = [
     (
         About {
             label: b"th",
-            question: Question::Axioms,
+            question: Question::Axioms { essential: false },
         },
         Case {
             name: "the axioms in a database that is loaded twice",
@@ -344,7 +344,7 @@ pub(crate) const AXIOMS_REFUSED: [(Command<'static>, Case); 3] = [
     (
         About {
             label: b"th2",
-            question: Question::Axioms,
+            question: Question::Axioms { essential: false },
         },
         Case {
             name: "the axioms in a refused database",
@@ -356,7 +356,7 @@ pub(crate) const AXIOMS_REFUSED: [(Command<'static>, Case); 3] = [
     (
         About {
             label: b"none",
-            question: Question::Axioms,
+            question: Question::Axioms { essential: false },
         },
         Case {
             name: "the axioms of a label that is not there in a refused database",

@@ -1,20 +1,23 @@
 //! Each table of cases is one test. Those of the documents' examples stand with their tables.
 
-ghost use Rattle.std.specs.Prelude.{map, IsTrue};
+ghost use Rattle.std.specs.Prelude.{◌≤◌, length, map, IsTrue};
+ghost use Rattle.std.specs.List.{AllByRecursion};
+ghost use Rattle.mm_base.specs.MostBytes.{most_bytes};
+ghost use Rattle.mm_code.specs.Layout.{texts};
 ghost use Rattle.mm_text.specs.Files.{plain_file};
 ghost use Rattle.mm_check.specs.Reply.{AsksHanded};
 
 use crate::databases::{DEMO, HEAD};
 use crate::{
-    Case, Part, compressed, damaged, faults, files, incomplete, lone, names, one_file, orders,
-    prefixes, profiles, proofs, questions, scopes, statements, users, uses, why, why_hypotheses,
-    why_meaning, why_text,
+    Case, Part, compressed, damaged, faults, files, finding, incomplete, lone, names, one_file,
+    orders, prefixes, profiles, proofs, questions, scopes, statements, users, uses, why,
+    why_hypotheses, why_meaning, why_text,
 };
 use mm_base::{File, Seed, Statement};
 use mm_check::{Command, WholeQuestion, run};
 use mm_rules::Status;
 use mm_step::Profile;
-use mm_text::{Counted, Statements};
+use mm_text::{BYTE_LIMIT, Counted, Statements};
 use mm_verdict::{Checked, check};
 use std::alloc::Global;
 use std::process::Abort;
@@ -37,13 +40,26 @@ pub(crate) fn joined(alloc: Global, parts: &[Part]) -> Result<Vec<u8>, Fail> {
     Ok(bytes)
 }
 
-/// Whether a file that a command asks for by its number is handed in.
+/// Whether there are at most two patterns, and none has more bytes than files may have.
+fn are_short(patterns: &[&[u8]]) -> bool
+    ensures { IsTrue result → AllByRecursion (λ p. length p ≤ most_bytes) (texts patterns.now) }
+{
+    match patterns {
+        [] => true,
+        [one] => one.len() <= BYTE_LIMIT,
+        [one, other] => one.len() <= BYTE_LIMIT && other.len() <= BYTE_LIMIT,
+        _ => false,
+    }
+}
+
+/// Whether a file that a command asks for by its number is handed in, and no pattern is too long.
 pub(crate) fn asks_handed(command: &Command, files: &[File<'_>]) -> bool
     ensures { IsTrue result → AsksHanded (map plain_file files.now) command.now }
 {
     match command {
         Command::File { file, .. } => *file < files.len(),
         Command::Shorter { file, .. } => *file < files.len(),
+        Command::Find { patterns, .. } => are_short(patterns),
         _ => true,
     }
 }
@@ -351,8 +367,8 @@ fn counted_beside_incomplete(rt: HostRuntime) -> Result<(), Fail> {
 }
 
 #[test]
-fn known_prefixes(rt: HostRuntime) -> Result<(), Fail> {
-    compare(&rt, rt.alloc(), &incomplete::KNOWN_PREFIXES)
+fn checked_prefixes(rt: HostRuntime) -> Result<(), Fail> {
+    compare(&rt, rt.alloc(), &incomplete::CHECKED_PREFIXES)
 }
 
 #[test]
@@ -503,6 +519,16 @@ fn unanswered_steps(rt: HostRuntime) -> Result<(), Fail> {
 #[test]
 fn axioms_of_refused_files(rt: HostRuntime) -> Result<(), Fail> {
     compare_commands(&rt, rt.alloc(), &questions::AXIOMS_REFUSED)
+}
+
+#[test]
+fn chains_and_axioms_by_type_code(rt: HostRuntime) -> Result<(), Fail> {
+    compare_commands(&rt, rt.alloc(), &finding::CHAINS)
+}
+
+#[test]
+fn found_assertions(rt: HostRuntime) -> Result<(), Fail> {
+    compare_commands(&rt, rt.alloc(), &finding::FOUND)
 }
 
 #[test]

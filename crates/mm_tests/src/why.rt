@@ -8,7 +8,7 @@ use mm_check::WholeQuestion;
 use mm_step::Profile::{Lenient, Strict};
 
 /// Databases with several faults, with one, and with none.
-pub(crate) const EXPLAINED: [(Command<'static>, Case); 13] = [
+pub(crate) const EXPLAINED: [(Command<'static>, Case); 14] = [
     (
         Whole {
             profile: Lenient,
@@ -19,6 +19,24 @@ pub(crate) const EXPLAINED: [(Command<'static>, Case); 13] = [
             files: &[(b"first.mm", &[Text(FIRST)])],
             reply: b"yes 7 statements 1 proofs\n",
             status: 0,
+        },
+    ),
+    (
+        Whole {
+            profile: Lenient,
+            question: WholeQuestion::Why,
+        },
+        Case {
+            name: "a hypothesis that isn't active is no near label",
+            files: &[(
+                b"f.mm",
+                &[Text(b"$c a $.\n${ hh1 $e a $. $}\nq $p a $= hh2 $.\n")],
+            )],
+            reply: b"f.mm:3:11: P2: no earlier statement has the label, in the proof of q
+  token: hh2
+1 fault
+",
+            status: 1,
         },
     ),
     (
@@ -59,7 +77,10 @@ f.mm:3:13: P2: no earlier statement has the label, in the proof of q
                     Text(b"  $c a $.\n"),
                 ],
             )],
-            reply: b"f.mm:2:13: P2: no earlier statement has the label, in the proof of p01
+            reply: b"f.mm:14:6: M2: a symbol of a $c was declared before, or stands twice in it
+  token: a
+  declared: f.mm:1:4
+f.mm:2:13: P2: no earlier statement has the label, in the proof of p01
   token: nope
 f.mm:3:13: P2: no earlier statement has the label, in the proof of p02
   token: nope
@@ -80,9 +101,6 @@ f.mm:10:13: P2: no earlier statement has the label, in the proof of p09
 f.mm:11:13: P2: no earlier statement has the label, in the proof of p10
   token: nope
 and 2 more, which mm faults lists
-f.mm:14:6: M2: a symbol of a $c was declared before, or stands twice in it
-  token: a
-  declared: f.mm:1:4
 13 faults
 ",
             status: 1,
@@ -191,9 +209,7 @@ f.mm:14:6: M2: a symbol of a $c was declared before, or stands twice in it
             )],
             reply: b"f.mm:4:27: P11: what replaces distinct variables shares a variable, in the proof of th, at step 4
   step: wa
-  it asks $d p r $., where p is
-    p
-  and r is
+  it asks $d p r $., where r is
     p
   both have: p
 1 fault
@@ -239,7 +255,7 @@ f.mm:9:3: P10: an entry isn't what its hypothesis asks, in the proof of p5, at s
     a b
   but step 2 gives
     a a
-  they differ at symbol 2: a for b
+  they differ at symbol 2: a where b is asked
 f.mm:10:22: P13: the proof doesn't leave exactly one entry, in the proof of p6, at step 3
   step 1 gives
     a a
@@ -250,7 +266,7 @@ f.mm:11:24: P14: the proof proves something else than is stated, in the proof of
     a b
   but step 1 gives
     a a
-  they differ at symbol 2: a for b
+  they differ at symbol 2: a where b is asked
 f.mm:12:36: P6: a number exceeds those of hypotheses, listed labels and tags, \
 in the proof of p8, at step 2
   it repeats Z number 1000000000 or a later one, and there are 1
@@ -496,10 +512,7 @@ and 1 more, which mm faults --strict lists
             )],
             reply: b"f.mm:4:24: P12: variables aren't stated to be distinct, in the proof of q, at step 3
   step: ax
-  it asks $d x y $., where x is
-    x
-  and y is
-    y
+  it asks $d x y $.
   this step lacks: $d x y $.
   the whole proof lacks: $d x y $.
 1 fault
@@ -527,18 +540,11 @@ and 1 more, which mm faults --strict lists
   step: ax
   it asks $d z x $., where z is
     u
-  and x is
-    x
   this step lacks: $d x u $.
   it asks $d z y $., where z is
     u
-  and y is
-    y
   this step lacks: $d y u $.
-  it asks $d x y $., where x is
-    x
-  and y is
-    y
+  it asks $d x y $.
   this step lacks: $d x y $.
   the whole proof lacks: $d x y $.
   the whole proof lacks: $d x u $.

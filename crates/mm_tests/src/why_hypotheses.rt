@@ -100,13 +100,8 @@ in the proof of p8, at step 1
 f.mm:8:25: P9: an entry has another type than its hypothesis asks, \
 in the proof of p9, at step 3
   step: two
-  zz asks, and step 1 gives
-    a x
-  yy asks
-    a y
-  but step 2 gives
-    |- y
-  they differ at symbol 1: |- for a
+  yy asks a a; step 2 gives |- y
+  takes a a; gets a |-
   the theorem's hypotheses
     f.mm:2:1 zz
     f.mm:2:14 yy
@@ -114,13 +109,13 @@ in the proof of p9, at step 3
     f.mm:6:3 m0
 f.mm:9:24: P10: an entry isn't what its hypothesis asks, in the proof of p10, at step 3
   step: mp
-  zz asks, and step 1 gives
-    a x
   e1 asks
     |- x
   but step 2 gives
     |- y
-  they differ at symbol 2: y for x
+  they differ at symbol 2: y where x is asked
+  zz asks, and step 1 gives
+    a x
   the theorem's hypotheses
     f.mm:2:1 zz
     f.mm:2:14 yy
@@ -139,7 +134,7 @@ in the proof of p14, at step 3
     |- z
   but step 2 gives
     |- x
-  they differ at symbol 2: x for z
+  they differ at symbol 2: x where z is asked
   the theorem's hypotheses
     f.mm:2:27 aa
 f.mm:13:22: P14: the proof proves something else than is stated, \
@@ -148,7 +143,7 @@ in the proof of q14, at step 3
     |- a
   but step 2 gives
     |- z
-  they differ at symbol 2: z for a
+  they differ at symbol 2: z where a is asked
 f.mm:14:19: P6: a number exceeds those of hypotheses, listed labels and tags, \
 in the proof of p6, at step 1
   it repeats Z number 1, and there are 0

@@ -21,7 +21,7 @@ pub(crate) const DECLARATIONS: [(Command<'static>, Case); 11] = [
             )],
             reply: b"f.mm:3:12: M1: a $c stands in a block
   token: $c
-  in the block: f.mm:3:3
+f.mm:3:3: the block is opened here, and not closed
 1 fault
 ",
             status: 1,

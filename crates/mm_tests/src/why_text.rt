@@ -69,7 +69,7 @@ pub(crate) const TEXTS: [(Command<'static>, Case); 14] = [
             files: &[(b"f.mm", &[Text(b"${ $} ${\n ${ $[ a.mm $] $}\n")])],
             reply: b"f.mm:2:5: X6: $[ stands in a block or in a statement
   token: $[
-  in the block: f.mm:2:2
+f.mm:2:2: the block is opened here, and not closed
 1 fault
 ",
             status: 1,
@@ -86,7 +86,7 @@ pub(crate) const TEXTS: [(Command<'static>, Case); 14] = [
             reply: b"f.mm:2:6: X6: $[ stands in a block or in a statement, in p
   token: $[
   begun: f.mm:2:1
-  in the block: f.mm:1:1
+f.mm:1:1: the block is opened here, and not closed
 1 fault
 ",
             status: 1,
@@ -105,6 +105,7 @@ pub(crate) const TEXTS: [(Command<'static>, Case); 14] = [
             )],
             reply: b"f.mm:4:3: S4: the keyword can't stand in this place, in q
   token: $a
+  missing before it: $.
   begun: f.mm:3:3
 1 fault
 ",
@@ -121,6 +122,7 @@ pub(crate) const TEXTS: [(Command<'static>, Case); 14] = [
             files: &[(b"f.mm", &[Text(b"$c a\nr $a a $.\n")])],
             reply: b"f.mm:2:3: S4: the keyword can't stand in this place
   token: $a
+  missing before it: $.
   begun: f.mm:1:1
 1 fault
 ",
@@ -237,11 +239,12 @@ pub(crate) const TEXTS: [(Command<'static>, Case); 14] = [
                 b"f.mm",
                 &[Text(b"$c a $.\np $p a $= nope $.\nq $a a $a $.\n")],
             )],
-            reply: b"f.mm:2:11: P2: no earlier statement has the label, in the proof of p
-  token: nope
-f.mm:3:8: S4: the keyword can't stand in this place, in q
+            reply: b"f.mm:3:8: S4: the keyword can't stand in this place, in q
   token: $a
+  missing before it: $.
   begun: f.mm:3:1
+f.mm:2:11: P2: no earlier statement has the label, in the proof of p
+  token: nope
 2 faults
 ",
             status: 1,
@@ -250,7 +253,7 @@ f.mm:3:8: S4: the keyword can't stand in this place, in q
 ];
 
 /// Faults of the text in what begins before them, without a label.
-pub(crate) const BEGUN: [(Command<'static>, Case); 5] = [
+pub(crate) const BEGUN: [(Command<'static>, Case); 7] = [
     (
         Whole {
             profile: Lenient,
@@ -312,6 +315,7 @@ pub(crate) const BEGUN: [(Command<'static>, Case); 5] = [
             ],
             reply: b"g.mm:3:1: S4: the keyword can't stand in this place
   token: $c
+  missing before it: $.
   begun: g.mm:2:3
 1 fault
 ",
@@ -336,6 +340,39 @@ pub(crate) const BEGUN: [(Command<'static>, Case); 5] = [
             status: 1,
         },
     ),
+    (
+        Whole {
+            profile: Lenient,
+            question: WholeQuestion::Why,
+        },
+        Case {
+            name: "a $p without $=",
+            files: &[(b"f.mm", &[Text(b"$c a $.\nq $p a $.\n")])],
+            reply: b"f.mm:2:8: S4: the keyword can't stand in this place, in q
+  token: $.
+  missing before it: $=
+  begun: f.mm:2:1
+1 fault
+",
+            status: 1,
+        },
+    ),
+    (
+        Whole {
+            profile: Lenient,
+            question: WholeQuestion::Why,
+        },
+        Case {
+            name: "a $a without a label",
+            files: &[(b"f.mm", &[Text(b"$c a $.\n$a a $.\n")])],
+            reply: b"f.mm:2:1: S1: the keyword begins no statement
+  token: $a
+  missing before it: a label
+1 fault
+",
+            status: 1,
+        },
+    ),
 ];
 
 /// Proofs that use a label before it is stated.
@@ -354,16 +391,16 @@ pub(crate) const LATER: [(Command<'static>, Case); 3] = [
                 ),
                 (b"g.mm", &[Text(b"s $a a $.\n q $e a $.\n")]),
             ],
-            reply: b"f.mm:2:11: P2: no earlier statement has the label, in the proof of p
+            reply: b"f.mm:5:1: M5: the label is an earlier label, in q
+  token: q
+  labelled: g.mm:2:2
+f.mm:2:11: P2: no earlier statement has the label, in the proof of p
   token: q
   stated further down: g.mm:2:2
 f.mm:3:11: P2: no earlier statement has the label, in the proof of r
   token: s
   near: p
   stated further down: g.mm:1:1
-f.mm:5:1: M5: the label is an earlier label, in q
-  token: q
-  labelled: g.mm:2:2
 3 faults
 ",
             status: 1,

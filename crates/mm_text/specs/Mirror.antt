@@ -2,7 +2,7 @@
 -- alone speak of them, and lemmas join them to the definitions, which are the other files of
 -- specs/.
 pub mod Class
-pub mod Hollow
+pub mod Stripped
 pub mod Included
 pub mod Names
 pub mod Nest

@@ -12,7 +12,6 @@ mod counted;
 mod cursor;
 mod fault;
 mod handed;
-mod hollow;
 mod included;
 mod laws;
 mod load;
@@ -26,6 +25,7 @@ mod scan;
 mod scope;
 mod sought;
 mod statements;
+mod stripped;
 
 pub use counted::{Counted, Source, WriteFault};
 pub use fault::{LoadRule, TextFault, TextRule};
@@ -36,7 +36,7 @@ pub use laws::{
     faults_end_longest_prefixes, inclusions_end, one_reading, proof_spans_follow,
     proofs_stand_in_spans, replaced_proofs_are_read,
 };
-pub use load::{HollowBytes, LoadFault, read_all, read_hollow};
+pub use load::{LoadFault, StrippedBytes, read_all, read_stripped};
 pub use passing::{Passing, pass_all, pass_first, pass_next};
 pub use remarks::{headings_between, mathbox_at, says_before};
 pub use statements::Statements;

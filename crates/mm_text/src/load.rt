@@ -7,7 +7,7 @@ ghost use Rattle.mm_text.specs.Device.{faults_of, inner_of, CameWithin, CameSome
 ghost use Rattle.mm_text.specs.declared.load.LoadFault.TheVariants.{Memory};
 
 use crate::counted::{Counted, Source};
-use crate::hollow::Hollow;
+use crate::stripped::Stripped;
 use std::alloc::{AllocError, Global};
 use thiserror::Error;
 
@@ -99,7 +99,7 @@ pub fn read_all<S: Source>(
 /// The bytes of a source without what its comments say. They show the same: outside comments the
 /// same tokens, or a fault of the same rule, on the same lines.
 #[derive(Drop)]
-pub struct HollowBytes {
+pub struct StrippedBytes {
     pub bytes: Vec<u8>,
     /// How many bytes the source gave.
     pub count: usize,
@@ -110,18 +110,18 @@ pub struct HollowBytes {
 /// # Errors
 ///
 /// Those of `read_all`.
-pub fn read_hollow<S: Source>(
+pub fn read_stripped<S: Source>(
     alloc: Global,
     reader: &mut Counted<S>,
     max: usize,
-) -> Result<HollowBytes, LoadFault>
+) -> Result<StrippedBytes, LoadFault>
     requires { faults_of reader.old < u64.MAX }
-    ensures within { IfOk result (λ hollow. hollow.count ≤ max) }
-    ensures short { IfOk result (λ hollow. vec_len hollow.bytes ≤ hollow.count) }
-    ensures all { IfOk result (λ hollow. (all : List ℕ)
+    ensures within { IfOk result (λ stripped. stripped.count ≤ max) }
+    ensures short { IfOk result (λ stripped. vec_len stripped.bytes ≤ stripped.count) }
+    ensures all { IfOk result (λ stripped. (all : List ℕ)
         × IfSome (S.left (inner_of reader.old)) (λ left. all ≡ left)
-        × (length all ≡ hollow.count)
-        × ShowAlike all hollow.bytes.items) }
+        × (length all ≡ stripped.count)
+        × ShowAlike all stripped.bytes.items) }
     ensures end { OnOk result (IsAtEnd (S.left (inner_of reader.new))) }
     ensures over { IsErrOf result LoadFault.TooLong →
         CameOver (S.left (inner_of reader.old)) (S.left (inner_of reader.new)) max }
@@ -138,7 +138,7 @@ pub fn read_hollow<S: Source>(
         faults_of reader.new ≡ faults_of reader.old }
 {
     let mut piece = [0; PIECE];
-    let mut hollow = Hollow::new(room_for(alloc, reader.length_hint().min(max)));
+    let mut stripped = Stripped::new(room_for(alloc, reader.length_hint().min(max)));
     let mut count = 0;
     loop {
         let more = match reader.read(&mut piece) {
@@ -150,8 +150,8 @@ pub fn read_hollow<S: Source>(
             return Err(LoadFault::TooLong);
         }
         count += more;
-        hollow.take(&piece[..more])?;
+        stripped.take(&piece[..more])?;
     }
-    let bytes = hollow.finish()?;
-    Ok(HollowBytes { bytes, count })
+    let bytes = stripped.finish()?;
+    Ok(StrippedBytes { bytes, count })
 }

@@ -2,7 +2,7 @@
 
 ghost use Rattle.std.specs.Prelude.{◌≡◌, ℕ, ◌<◌, ◌≤◌, nat_lt, true, false, length};
 ghost use Rattle.std.specs.Prelude.{slice_index};
-ghost use Rattle.mm_text.specs.Mirror.Hollow.{is_spoken};
+ghost use Rattle.mm_text.specs.Mirror.Stripped.{is_spoken};
 ghost use Rattle.mm_text.specs.Mirror.Sought.{IsRunIn, first_set};
 
 use std::simd::prelude::*;

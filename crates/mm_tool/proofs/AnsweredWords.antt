@@ -16,7 +16,7 @@ use Rattle.mm_tool.specs.Ending.{IsHelpFault, label_of}
 use Rattle.std.specs.List.{AllZip}
 use Rattle.mm_base.proofs.Lists.{zip_length}
 use Rattle.mm_check.specs.Reply.{AsksHanded}
-use Rattle.mm_check.specs.declared.command.Command.TheVariants.{File, Shorter}
+use Rattle.mm_check.specs.declared.command.Command.TheVariants.{File, Find, Shorter}
 use Rattle.mm_tool.specs.ReadFiles.{IsReadAs}
 use Rattle.mm_tool.specs.declared.files.Comments.{Comments}
 use Rattle.mm_text.specs.Files.{PlainFile}
@@ -134,6 +134,7 @@ pub asks_handed : (command : Command) (names : List (List ℕ)) (files : List Pl
     → length files ≡ length names → AsksNamed command names → AsksHanded files command
 asks_handed (File form number) names files same named = rw same named
 asks_handed (Shorter number duplicates) names files same named = rw same named
+asks_handed (Find patterns whole hypotheses) names files same named = named
 asks_handed command names files same named = tt
 
 -- Of the files that were read there are as many as names.

@@ -3,15 +3,16 @@ use Rattle.std.proofs.Common.{◌≡◌, ◌≢◌, false, ℕ, suc, zero, ◌+�
 use Rattle.std.proofs.Common.{get_or, Contains, arith, Bool, Bor, map, nat_lt, cond, codes, Option}
 use Rattle.std.proofs.Common.{Some, None, option_map, Result, Ok, Err, IfOk, IfErr, IsSome, IfSome}
 use Rattle.std.proofs.Common.{inl, inr, refl, ap, subst, sym, ◌∙◌, true, unwrap_or, ◌-◌, ◌==◌, ◌||◌}
-use Rattle.std.proofs.Common.{slice_get, ◌++◌}
+use Rattle.std.proofs.Common.{slice_get, ◌++◌, is_some, ◌≤◌}
 use Rattle.std.proofs.lemmas.Slice.Eq.{bytes_eq-Decides}
 use Rattle.std.proofs.lemmas.Bool.Decides.{not_from_Decides}
 use Rattle.std.proofs.lemmas.Grind.{flat_map-append}
-use Rattle.std.proofs.lemmas.List.{take_more, append-nil, length-map}
+use Rattle.std.proofs.lemmas.List.{take_more, append-nil, length-map, map-append}
 use Rattle.std.proofs.lemmas.List.Elements.{Contains-append_left, Contains-append_right}
 use Rattle.std.specs.List.{AllByRecursion, flat_map, position, position_or_len, join_by}
 use Rattle.std.specs.List.{slice_split}
 use Rattle.std.specs.Str.{bytes_eq}
+use Rattle.mm_base.specs.MostBytes.{most_bytes}
 use Rattle.mm_base.proofs.Lists.{all_append, all_push, all_weaker}
 use Rattle.mm_text.proofs.Inclusions.OpenFiles.{position-names}
 use borrow.Author.Tests.{ltb-true}
@@ -30,13 +31,15 @@ use Rattle.clap.specs.declared.parser.matches.Found.{Found}
 use Rattle.clap.proofs.OnLiterals.{clap_on_literals}
 use Rattle.clap.proofs.WalkLemmas.{first_value-rows, raw_values-rows}
 use Rattle.mm_check.specs.declared.command.Command.{Command}
-use Rattle.mm_check.specs.declared.command.Command.TheVariants.{File, Shorter}
+use Rattle.mm_check.specs.declared.command.Command.TheVariants.{File, Find, Shorter}
 use Rattle.mm_verdict.specs.declared.form.Form.{Form}
 use Rattle.mm_tool.specs.Ending.{AsksNamed}
 use Rattle.mm_tool.specs.Words.{AsksForm, AsksRun, IsAllFault, IsGiven, name_of_form, number_among}
 use Rattle.mm_tool.specs.Words.{AreMatchesOf, Asks, Commands, IsAccepted, IsFaultOfKind, IsOfKind}
-use Rattle.mm_tool.specs.Words.{AreMinimizeFlags, AreRefusedWords, AsksAxioms, AsksMinimize}
-use Rattle.mm_tool.specs.Words.{AsksShorterFile, DoAgree, IsFilesFault}
+use Rattle.mm_tool.specs.Words.{AreAxiomsFlags, AreMinimizeFlags, AreRefusedWords, AreShort}
+use Rattle.mm_tool.specs.Words.{AsksAxioms}
+use Rattle.mm_tool.specs.Words.{AsksMinimize, AsksShorterFile, AsksStatement, DoAgree}
+use Rattle.mm_tool.specs.Words.{IsFilesFault, StandAlone}
 use Rattle.mm_tool.specs.Words.{IsNamingFault, IsWordFault, NamesFile, command_line}
 use Rattle.mm_tool.specs.Words.{first_command}
 use Rattle.mm_tool.specs.declared.words.Request.{Request}
@@ -223,6 +226,8 @@ named_by_words words (File form number) names (rows, commands, file, all, found,
     number_found names (unwrap_or (first_of (codes "LABEL") rows) []) number found
 named_by_words words (Shorter number duplicates) names (behind, asked, (name, is, found)) =
     number_found names name number found
+named_by_words words (Find patterns whole hypotheses) names (inl (asked, short)) = short
+named_by_words words (Find patterns whole hypotheses) names (inr (none, asked)) = rw none tt
 named_by_words words command names asked = tt
 
 -- The index of a name among names is that among their texts.
@@ -270,24 +275,136 @@ pub form_asked : (words : List Text) (form : Form) (rows : List Row) (whole give
 form_asked words form rows whole given label names commands file all not_given word files =
     (rows, commands, sym word, file, rw not_given at all, sym files)
 
--- They ask on which axioms the theorem with a label rests, where `--all` isn't given.
-pub axioms_asked : (words : List Text) (rows : List Row) (given : Bool) (found parts : List Text)
-    (label : Text) (names : List Text) → Commands words (codes "axioms") rows
-    → IsGiven (codes "all") rows given → given ≡ false
+-- ---- `axioms`
+
+-- what isn't there is none
+none_of : {X : Type 0} (o : Option X) → is_some o ≡ false → o ≡ None
+none_of None h = refl
+none_of (Some x) h = absurd (cc)
+
+is_some_map : {X Y : Type 0} (f : X → Y) (o : Option X) → is_some (option_map f o) ≡ is_some o
+is_some_map f None = refl
+is_some_map f (Some x) = refl
+
+-- They ask why a theorem rests on an assertion, where the label of one stands behind `--to`.
+pub chain_asked : (words names : List Text) (label : Text) (essential : Bool)
+    (to : Option (Bor Text)) (other : Bor Text) (given : Text) → to ≡ Some other
+    → given ≡ other.now → StandAlone false essential (is_some to)
+    → AsksAxioms words false essential (option_map (λ o. o.now) to) (label ∷ names) → names ≢ []
+    → AsksAxioms words false false (Some given) (label ∷ names) × (names ≢ [])
+chain_asked words names label essential None other given is same alone asked some = absurd (cc)
+chain_asked words names label essential (Some o) other given is same (inl not) asked some =
+    let here : o ≡ other = cc in
+    (rw same (rw (not, here) at asked), some)
+chain_asked words names label essential (Some o) other given is same (inr none) asked some =
+    absurd (cc)
+
+-- Else they ask what it rests on.
+pub report_asked : (words names : List Text) (label : Text) (essential : Bool)
+    (to : Option (Bor Text)) → to ≡ None
+    → AsksAxioms words false essential (option_map (λ o. o.now) to) (label ∷ names) → names ≢ []
+    → AsksAxioms words false essential None (label ∷ names) × (names ≢ [])
+report_asked words names label essential None is asked some = (asked, some)
+report_asked words names label essential (Some o) is asked some = absurd (cc)
+
+module _ (rows : List Row) (all essential : Bool) (to : Option (Bor Text)) (behind : List Text)
+    (flags : AreAxiomsFlags rows all essential (option_map (λ o. o.now) to))
+    (files : behind ≡ unwrap_or (all_of (codes "FILES") rows) []) where
+  -- The words ask by `axioms`, with these flags.
+  by_axioms : (words : List Text) → Commands words (codes "axioms") rows
+      → AsksAxioms words all essential (option_map (λ o. o.now) to) behind
+  by_axioms words commands = (rows, commands, flags, sym files)
+
+  -- They ask what each theorem rests on, where `--all` is given.
+  pub all_axioms_asked : (has : Bool) → has ≡ is_some to → StandAlone all essential has
+      → all ≡ true → (words : List Text) → Commands words (codes "axioms") rows
+      → AsksAxioms words true false None behind
+  all_axioms_asked has same alone given words commands =
+      let both : (essential ≡ false) × (has ≡ false) = rw given at alone in
+      let none : to ≡ None = none_of to (sym same ∙ both.1) in
+      rw (given, both.0, none) at by_axioms words commands
+
+  -- Flags that exclude each other are refused.
+  pub axioms_refused : (has : Bool) → has ≡ is_some to → ¬ (StandAlone all essential has)
+      → (words : List Text) → Commands words (codes "axioms") rows → AreRefusedWords words
+  axioms_refused has same several words commands = inr (inr (inr (inl (
+    all,
+    essential,
+    option_map (λ o. o.now) to,
+    behind,
+    by_axioms words commands,
+    inl (rw (is_some_map (λ (o : Bor Text). o.now) to, ← same) several),
+  ))))
+
+  -- So are words that name no file behind the label.
+  pub label_refused : all ≡ false → (parts : List Text) (stop : Stop) → parts ≡ behind
+      → IsFilesFault parts stop → (words : List Text) → Commands words (codes "axioms") rows
+      → IsWordFault words stop
+  label_refused not_all parts (Usage text) same few words commands = inr (inr (inr (inl (
+    all,
+    essential,
+    option_map (λ o. o.now) to,
+    behind,
+    by_axioms words commands,
+    inr (not_all, rw same at few),
+  ))))
+  label_refused not_all parts Memory same few words commands = tt
+  label_refused not_all parts other same few words commands = absurd few
+
+  -- They ask about the theorem with a label, where `--all` isn't given.
+  pub label_asked : all ≡ false → (parts : List Text) (label : Text) (names : List Text)
+      → parts ≡ behind → parts ≡ label ∷ names → (words : List Text)
+      → Commands words (codes "axioms") rows
+      → AsksAxioms words false essential (option_map (λ o. o.now) to) (label ∷ names)
+  label_asked not_all parts label names same is words commands =
+      rw (not_all, sym same ∙ is) at by_axioms words commands
+
+-- ---- `statement` and `find`
+
+-- They ask about the statement with a label, where `--all` isn't given.
+pub statement_asked : (words : List Text) (rows : List Row) (given : Bool)
+    (found parts : List Text) (label : Text) (names : List Text)
+    → Commands words (codes "statement") rows → IsGiven (codes "all") rows given → given ≡ false
     → found ≡ unwrap_or (all_of (codes "FILES") rows) [] → parts ≡ found
-    → (parts ≡ label ∷ names) × (names ≢ []) → AsksAxioms words label names
-axioms_asked words rows given found parts label names commands all not_given files same (is, some) =
-    (rows, commands, rw not_given at all, sym (same ∙ files) ∙ is, some)
+    → (parts ≡ label ∷ names) × (names ≢ [])
+    → AsksStatement words false (label ∷ names) × (names ≢ [])
+statement_asked words rows given found parts label names commands all not_given files same
+    (is, some) =
+    ((rows, commands, rw not_given at all, sym (same ∙ files) ∙ is), some)
 
 -- Where no file follows the label, the words are refused.
-pub files_refused : (rows : List Row) (given : Bool) (found parts : List Text) (stop : Stop)
+pub statement_refused : (rows : List Row) (given : Bool) (found parts : List Text) (stop : Stop)
     → IsGiven (codes "all") rows given → given ≡ false
     → found ≡ unwrap_or (all_of (codes "FILES") rows) [] → parts ≡ found → IsFilesFault parts stop
-    → (words : List Text) → Commands words (codes "axioms") rows → IsWordFault words stop
-files_refused rows given found parts (Usage text) all not_given files same few = λ words commands.
-    inr (inr (inr (inl (rows, commands, rw not_given at all, rw (same ∙ files) at few))))
-files_refused rows given found parts Memory all not_given files same few = λ words commands. tt
-files_refused rows given found parts other all not_given files same few = absurd few
+    → (words : List Text) → Commands words (codes "statement") rows → IsWordFault words stop
+statement_refused rows given found parts (Usage text) all not_given files same few =
+    λ words commands. inr (inr (inr (inr (inr (inr (inl (
+      found,
+      (rows, commands, rw not_given at all, sym files),
+      rw same at few,
+    )))))))
+statement_refused rows given found parts Memory all not_given files same few = λ words commands. tt
+statement_refused rows given found parts other all not_given files same few = absurd few
+
+-- One pattern more is short.
+pub short_more : (patterns : List (Bor Text)) (i : ℕ) (d : Bor Text) → i < length patterns
+    → AreShort (map (λ pattern. pattern.now) (take i patterns))
+    → length (get_or patterns i d).now ≤ most_bytes
+    → AreShort (map (λ pattern. pattern.now) (take (i + 1) patterns))
+short_more patterns i d less short own =
+    rw (
+      take_more patterns i d less,
+      map-append (λ (pattern : Bor Text). pattern.now) (take i patterns) (get_or patterns i d ∷ []),
+    ) (all_push (λ (pattern : Text). length pattern ≤ most_bytes)
+    (map (λ (pattern : Bor Text). pattern.now) (take i patterns)) (get_or patterns i d).now short own)
+
+-- Where all are short, so is each.
+pub short_at : (patterns : List (Bor Text)) (i : ℕ) (d : Bor Text) → i < length patterns
+    → AreShort (map (λ pattern. pattern.now) patterns)
+    → length (get_or patterns i d).now ≤ most_bytes
+short_at [] i d less short = absurd (omega arith)
+short_at (p ∷ ps) zero d less short = short.0
+short_at (p ∷ ps) (suc i) d less short = short_at ps i d (omega arith) short.1
 
 -- ---- `minimize`
 
@@ -316,27 +433,27 @@ module _ (rows : List Row) (all list duplicates : Bool) (behind : List Text)
   -- Flags that don't agree are refused.
   pub flags_refused : ¬ (DoAgree all list duplicates) → (words : List Text)
       → Commands words (codes "minimize") rows → AreRefusedWords words
-  flags_refused differ words commands = inr (inr (inr (inr (inr (
+  flags_refused differ words commands = inr (inr (inr (inr (inr (inl (
     all,
     list,
     duplicates,
     behind,
     by_minimize words commands,
     inl differ,
-  )))))
+  ))))))
 
   -- So are words that name no file behind the label.
   pub few_refused : list ≡ false → (parts : List Text) (stop : Stop) → parts ≡ behind
       → IsFilesFault parts stop → (words : List Text)
       → Commands words (codes "minimize") rows → IsWordFault words stop
-  few_refused not_list parts (Usage text) same few words commands = inr (inr (inr (inr (inr (
+  few_refused not_list parts (Usage text) same few words commands = inr (inr (inr (inr (inr (inl (
     all,
     list,
     duplicates,
     behind,
     by_minimize words commands,
     inr (inl (not_list, rw same at few)),
-  )))))
+  ))))))
   few_refused not_list parts Memory same few words commands = tt
   few_refused not_list parts other same few words commands = absurd few
 
@@ -344,14 +461,14 @@ module _ (rows : List Row) (all list duplicates : Bool) (behind : List Text)
   pub name_refused : all ≡ true → (parts : List Text) (stop : Stop) → parts ≡ behind
       → IsNamingFault parts stop → (words : List Text)
       → Commands words (codes "minimize") rows → IsWordFault words stop
-  name_refused given parts (Usage text) same none words commands = inr (inr (inr (inr (inr (
+  name_refused given parts (Usage text) same none words commands = inr (inr (inr (inr (inr (inl (
     all,
     list,
     duplicates,
     behind,
     by_minimize words commands,
     inr (inr (given, rw same at none)),
-  )))))
+  ))))))
   name_refused given parts Memory same none words commands = tt
   name_refused given parts other same none words commands = absurd none
 

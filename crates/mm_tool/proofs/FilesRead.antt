@@ -33,7 +33,7 @@ use Rattle.mm_base.specs.declared.file.File.{File}
 use Rattle.mm_text.specs.Included.{AlikeFilesLeaveOutTheSame, is_left_out, left_out}
 use Rattle.mm_base.proofs.Lists.{all_at, all_weaker}
 use Rattle.mm_check.proofs.AlikeVerdicts.{alike_back, breaks_alike, name_alike}
-use Rattle.mm_tool.specs.Ending.{label_of}
+use Rattle.mm_tool.specs.Ending.{AreAllNotes, label_of}
 use Rattle.mm_explain.specs.Near.{IsLabelIn}
 use Rattle.mm_tool.specs.Notes.{AreLeftOut, AreNotesBeside, AreNotesOn, IsNearLine, near_line}
 use Rattle.mm_rules.specs.declared.ask.AskFault.TheVariants.{Rule}
@@ -218,6 +218,14 @@ three_parts (Ok v) old first second new a b d one two three =
     rw (three, two, one) (simp append_assoc)
 three_parts (Err e) old first second new a b d one two three = tt
 
+-- What was put at the end in four parts.
+pub four_parts : {T E : Type 0} (r : Result T E) (old first second third new a b d e : List ℕ)
+    → first ≡ old ++ a → second ≡ first ++ b → third ≡ second ++ d → OnOk r (new ≡ third ++ e)
+    → OnOk r (new ≡ old ++ (a ++ (b ++ (d ++ e))))
+four_parts (Ok v) old first second third new a b d e one two three four =
+    rw (four, three, two, one) (simp append_assoc)
+four_parts (Err err) old first second third new a b d e one two three four = tt
+
 -- The line on a near label was put at the end, where the reply says that no statement has the asked
 -- one.
 pub near_told : {T E : Type 0} (r : Result T E) (files : List PlainFile) (asked : Option (List ℕ))
@@ -287,3 +295,18 @@ notes_over law LeftOut command max only wholes reads all within reply notes besi
       label_noted = rw check none;
       whole = beside.whole;
     }
+
+-- So are all notes.
+pub all_notes_over : AlikeFilesLeaveOutTheSame → (comments : Comments) (command : Command)
+    (max : ℕ)
+    → (comments ≡ LeftOut → ((profile : Profile) × (command ≡ Whole profile Check)) × (max ≤ most_bytes))
+    → (wholes reads : List PlainFile) → AllZip (IsReadAs comments) wholes reads
+    → total_bytes wholes ≤ max → (reply notes : List ℕ)
+    → AreAllNotes reads command reply notes → AreAllNotes wholes command reply notes
+all_notes_over law comments command max only wholes reads all within reply notes are = record {
+  beside = are.beside;
+  searched = are.searched;
+  are_beside = notes_over law comments command max only wholes reads all within reply are.beside
+      are.are_beside;
+  whole = are.whole;
+}

@@ -12,8 +12,11 @@ use Rattle.mm_text.specs.Device.{faults_of, inner_of, AppendsBeginning}
 use Rattle.mm_text.specs.declared.counted.Counted.{Counted}
 use Rattle.mm_check.specs.Reply.{IsReplyTo}
 use Rattle.mm_rules.specs.Status.{number_of}
+use Rattle.mm_minimize.specs.declared.search_watch.Searched.{Searched}
 use Rattle.mm_check.specs.declared.command.Command.{Command}
+use Rattle.mm_code.specs.Layout.{texts}
 use Rattle.mm_check.specs.declared.command.Command.TheVariants.{Whole, About, File, Lone, Shorter}
+use Rattle.mm_check.specs.declared.command.Command.TheVariants.{Find}
 use Rattle.mm_check.specs.declared.question.Question.TheVariants.{Same}
 use Rattle.mm_check.specs.declared.question.LoneQuestion.TheVariants as lone
 use Rattle.mm_tool.specs.declared.words.TextQuestion.{TextQuestion}
@@ -24,9 +27,9 @@ use Rattle.clap.specs.Words.{Text}
 use Rattle.mm_tool.specs.Folder.{AreHeld, AreTooLong, IsHeld, IsUnreadable, KnownFile, MayHold}
 use Rattle.mm_tool.specs.Answer.{Outcome, quiet}
 use Rattle.mm_tool.specs.Explained.{IsExplanation, IsUnknownCode}
-use Rattle.mm_tool.specs.Notes.{AreNotesBeside}
+use Rattle.mm_tool.specs.Notes.{AreNotesBeside, search_line}
 use Rattle.mm_tool.specs.Words.{AsksHelp, AsksVersion, AsksExplain, AsksRun, AsksText}
-use Rattle.mm_tool.specs.Words.{AreRefusedWords}
+use Rattle.mm_tool.specs.Words.{AreRefusedWords, AreShort}
 use Rattle.mm_tool.specs.declared.folder.ArgumentFault.{ArgumentFault}
 use Rattle.mm_tool.specs.declared.folder.ArgumentFault.TheVariants as argument
 use Rattle.mm_tool.specs.declared.pages.Page.{Page}
@@ -69,6 +72,16 @@ label_of (About label question) = Some label.now
 label_of (Lone label question) = Some label.now
 label_of (File form number) = None
 label_of (Shorter number duplicates) = None
+label_of (Find patterns whole hypotheses) = None
+
+-- These are the notes beside the reply to the command, and then the line on what a search for
+-- shorter proofs came to. What it came to isn't said.
+pub record AreAllNotes (files : List PlainFile) (command : Command) (reply notes : List ℕ)
+    : Type 0 where
+  pub beside : List ℕ
+  pub searched : Option Searched
+  pub are_beside : AreNotesBeside files (label_of command) reply beside
+  pub whole : notes ≡ beside ++ search_line command searched
 
 -- This is the reply to the command over the files with these names, with the notes beside it; or
 -- the one that says that they hold too many bytes.
@@ -76,7 +89,7 @@ abbrev pub IsReplyOver : (List ℕ → KnownFile) → Command → List Text → 
 IsReplyOver holds command names max text outcome =
     ((files : List PlainFile) × AreHeld holds names files × (total_bytes files ≤ max)
     × IsReplyTo files command text outcome.status
-    × AreNotesBeside files (label_of command) text outcome.notes)
+    × AreAllNotes files command text outcome.notes)
     ⊎ (AreTooLong holds names max × (text ≡ codes "load F3\n") × (outcome ≡ quiet 4))
 
 -- the command asks this about the text in this file and the theorem with this label; of a text that
@@ -181,10 +194,12 @@ error_line (CannotRead name label) = unread_lines name.now (option_map (λ l. l.
 error_line CannotWrite = codes "mm: cannot write\n"
 error_line Memory = codes "mm: out of memory\n"
 
--- the file about which a command asks is one of those with these names
+-- the file about which a command asks is one of those with these names, and no pattern that it seeks
+-- is too long
 abbrev pub AsksNamed : Command → List Text → Type 0
 AsksNamed (File form number) names = number < length names
 AsksNamed (Shorter number duplicates) names = number < length names
+AsksNamed (Find patterns whole hypotheses) names = AreShort (texts patterns.now)
 AsksNamed other names = Unit {0}
 
 -- The end is the same; where a file can't be read, the word that was taken for the label is told

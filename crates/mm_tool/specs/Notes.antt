@@ -1,4 +1,5 @@
--- The notes on files that were handed in and not included, and on a label that no statement has.
+-- The notes on files that were handed in and not included, on a label that no statement has, and on
+-- what a search for shorter proofs came to.
 use Rattle.std.specs.Prelude.{◌≡◌, ℕ, ◌-◌, ◌==◌, List, [], ◌++◌, length, map, take, codes, decimal}
 use Rattle.std.specs.Prelude.{if◌then◌else◌, Option, Some, None, ◌⊎◌}
 use Rattle.std.specs.List.{flat_map}
@@ -10,6 +11,12 @@ use Rattle.mm_explain.specs.Near.{IsLabelIn}
 use Rattle.mm_rules.specs.declared.ask.AskFault.TheVariants.{Rule}
 use Rattle.mm_rules.specs.declared.rule.AskRule.TheVariants.{A1}
 use Rattle.mm_rules.specs.Places.{name_of}
+use Rattle.mm_minimize.specs.declared.search_watch.Searched.{Searched}
+use Rattle.mm_minimize.specs.declared.search_watch.Searched.TheVariants as of_search
+use Rattle.mm_check.specs.declared.command.Command.{Command}
+use Rattle.mm_check.specs.declared.command.Command.TheVariants as commands
+use Rattle.mm_check.specs.declared.question.Question.TheVariants.{Minimized}
+use Rattle.mm_check.specs.declared.question.WholeQuestion.TheVariants as questions
 use Rattle.mm_verdict.specs.Reply.{IsAskReply}
 
 -- the line on a file that wasn't included
@@ -66,3 +73,39 @@ pub record AreNotesBeside (files : List PlainFile) (asked : Option Text) (reply 
   pub files_noted : AreNotesOn files on_files
   pub label_noted : IsNearLine files asked reply near
   pub whole : notes ≡ on_files ++ near
+
+-- the line on so many theorems that were left as they are
+abbrev pub many_left_note : ℕ → List ℕ
+many_left_note count =
+    codes "mm: note: " ++ (decimal count
+    ++ codes " theorems are left as they are: their proofs are too long to search\n")
+
+-- the line on how many theorems were left as they are; nothing where none was
+abbrev pub left_note : ℕ → List ℕ
+left_note count =
+    if count == 0 then []
+    else if count == 1
+    then codes "mm: note: 1 theorem is left as it is: its proof is too long to search\n"
+    else many_left_note count
+
+-- a number before and after, each behind a text
+abbrev pub change_text : (first : List ℕ) → ℕ → (second : List ℕ) → ℕ → List ℕ
+change_text first old second new = first ++ (decimal old ++ (second ++ decimal new))
+
+-- the line on what a search for shorter proofs came to: how many theorems were left; or of one
+-- theorem the sizes of its own proof and of a shorter one, if one was found
+abbrev pub searched_line : Searched → List ℕ
+searched_line (of_search.Left count) = left_note count
+searched_line of_search.NoneShorter = codes "mm: no shorter proof was found\n"
+searched_line (of_search.Shorter own new) =
+    change_text (codes "mm: ") own.bytes (codes " bytes -> ") new.bytes
+    ++ (change_text (codes ", ") own.steps (codes " steps -> ") new.steps ++ codes "\n")
+
+-- Of a command that searches for shorter proofs the line on what it came to, where it came to
+-- something; of another nothing.
+abbrev pub search_line : Command → Option Searched → List ℕ
+search_line asked None = []
+search_line (commands.Whole profile questions.Shorter) (Some searched) = searched_line searched
+search_line (commands.About label Minimized) (Some searched) = searched_line searched
+search_line (commands.Shorter number duplicates) (Some searched) = searched_line searched
+search_line other (Some searched) = []

@@ -2,7 +2,8 @@
 -- them. The first word is the program's name.
 use Rattle.std.specs.Prelude.{◌≡◌, ◌≢◌, ◌↔◌, List, [], map, Some, Bool, true, IsTrue, codes}
 use Rattle.std.specs.Prelude.{ℕ, Option, None, find, option_and_then, option_map, position, slice_get}
-use Rattle.std.specs.Prelude.{unwrap_or, false, ◌⊎◌, ◌∷◌, ◌<◌, length}
+use Rattle.std.specs.Prelude.{unwrap_or, false, ◌⊎◌, ◌∷◌, ◌<◌, ◌≤◌, length, is_some}
+use Rattle.std.specs.List.{AllByRecursion}
 use Rattle.std.specs.Str.{bytes_eq}
 use Rattle.clap.specs.Lexer.{usize_max}
 use Rattle.clap.specs.Simple.{label_of}
@@ -15,8 +16,10 @@ use Rattle.clap.specs.declared.builder.action.ArgAction.TheVariants.{Append, Set
 use Rattle.clap.specs.declared.error.kind.ErrorKind.{ErrorKind}
 use Rattle.clap.specs.declared.error.kind.ErrorKind.TheVariants.{DisplayHelp, DisplayVersion}
 use Rattle.clap.specs.declared.error.kind.ErrorKind.TheVariants.{OutOfMemory}
+use Rattle.mm_base.specs.MostBytes.{most_bytes}
+use Rattle.mm_code.specs.Layout.{texts}
 use Rattle.mm_check.specs.declared.command.Command.{Command}
-use Rattle.mm_check.specs.declared.command.Command.TheVariants.{Whole, About, File, Lone}
+use Rattle.mm_check.specs.declared.command.Command.TheVariants.{Whole, About, File, Find, Lone}
 use Rattle.mm_check.specs.declared.command.Command.TheVariants as commands
 use Rattle.mm_check.specs.declared.question.Question.{Question}
 use Rattle.mm_check.specs.declared.question.Question.TheVariants as question
@@ -51,12 +54,33 @@ label_rule = record (new_rule (codes "LABEL")) {
   action = Some Set;
 }
 
--- a flag: `--file`, `--all`, `--list`, `--duplicates`, `--known`, `--essential`, `--uses` or
--- `--strict`
+-- `PATTERN`: one
+abbrev pub pattern_rule : Rule
+pattern_rule = record (new_rule (codes "PATTERN")) {
+  required = true;
+  action = Some Set;
+}
+
+-- a flag: `--file`, `--all`, `--list`, `--duplicates`, `--known`, `--essential`, `--uses`,
+-- `--whole`, `--hypotheses` or `--strict`
 abbrev pub flag_rule : Text → Rule
 flag_rule name = record (new_rule name) {
   long = Some name;
   action = Some SetTrue;
+}
+
+-- an option with a word behind it, which may be given once: `--to AXIOM`
+abbrev pub option_rule : Text → Rule
+option_rule name = record (new_rule name) {
+  long = Some name;
+  action = Some Set;
+}
+
+-- an option with a word behind it, which may be given again: `--and PATTERN`
+abbrev pub options_rule : Text → Rule
+options_rule name = record (new_rule name) {
+  long = Some name;
+  action = Some Append;
 }
 
 -- `PROOF`: one
@@ -100,15 +124,35 @@ why_line = profile_line (codes "why")
 abbrev pub question_line : Text → App
 question_line name = with_rule (with_rule (new_app name) label_rule) files_rule
 
--- `axioms LABEL FILES..`, `axioms --all FILES..`: what stands behind the command are words, at least
--- one; with `--all` all of them name files, else the first is the label
+-- `axioms [--essential | --to AXIOM] LABEL FILES..`, `axioms --all FILES..`: what stands behind the
+-- command are words, at least one; with `--all` all of them name files, else the first is the label
 abbrev pub axioms_line : App
 axioms_line =
-    with_rule (with_rule (new_app (codes "axioms")) (flag_rule (codes "all"))) files_rule
+    with_rule
+    (with_rule
+    (with_rule
+    (with_rule (new_app (codes "axioms")) (flag_rule (codes "all")))
+    (flag_rule (codes "essential")))
+    (option_rule (codes "to")))
+    files_rule
 
--- `statement LABEL FILES..`
+-- `statement LABEL FILES..`, `statement --all FILES..`: as for `axioms`
 abbrev pub statement_line : App
-statement_line = question_line (codes "statement")
+statement_line =
+    with_rule (with_rule (new_app (codes "statement")) (flag_rule (codes "all"))) files_rule
+
+-- `find PATTERN [--and PATTERN].. [--whole] [--hypotheses] FILES..`
+abbrev pub find_line : App
+find_line =
+    with_rule
+    (with_rule
+    (with_rule
+    (with_rule
+    (with_rule (new_app (codes "find")) pattern_rule)
+    (options_rule (codes "and")))
+    (flag_rule (codes "whole")))
+    (flag_rule (codes "hypotheses")))
+    files_rule
 
 -- `show [--known | --essential | --uses] LABEL FILES..`
 abbrev pub show_line : App
@@ -202,7 +246,9 @@ rests_line = with_subcommand (with_subcommand check_lines axioms_line.top) users
 
 -- and those that ask what stands there, and how it is proved
 abbrev pub database_line : App
-database_line = with_subcommand (with_subcommand rests_line statement_line.top) show_line.top
+database_line =
+    with_subcommand
+    (with_subcommand (with_subcommand rests_line statement_line.top) find_line.top) show_line.top
 
 -- and those that ask for a proof in another form
 abbrev pub forms_line : App
@@ -219,8 +265,10 @@ abbrev pub proofs_line : App
 proofs_line = with_subcommand (with_subcommand shorter_line same_line.top) try_line.top
 
 -- `mm check [--strict] FILES..`, `mm faults [--strict] FILES..`, `mm why [--strict] FILES..`,
--- `mm axioms LABEL FILES..`, `mm axioms --all FILES..`, `mm users [--all] LABEL FILES..`,
--- `mm statement LABEL FILES..`, `mm show [--known | --essential | --uses] LABEL FILES..`,
+-- `mm axioms [--essential | --to AXIOM] LABEL FILES..`, `mm axioms --all FILES..`,
+-- `mm users [--all] LABEL FILES..`, `mm statement LABEL FILES..`, `mm statement --all FILES..`,
+-- `mm find PATTERN [--and PATTERN].. [--whole] [--hypotheses] FILES..`,
+-- `mm show [--known | --essential | --uses] LABEL FILES..`,
 -- `mm normal [--file] LABEL FILES..`, `mm packed [--file] LABEL FILES..`,
 -- `mm small [--file] LABEL FILES..`, all three with `--all NAME FILES..` too,
 -- `mm minimize LABEL FILES..`, `mm minimize --all [--duplicates] NAME FILES..`,
@@ -277,14 +325,6 @@ abbrev pub AsksExplain : List Text → List Text → Type 0
 AsksExplain words asked =
     (rows : List Row) × Commands words (codes "explain") rows
     × (unwrap_or (all_of (codes "CODE") rows) [] ≡ asked)
-
--- They ask, by the command with this name, about the statement with this label in the files with
--- these names.
-abbrev pub AsksQuestion : Text → List Text → Text → List Text → Type 0
-AsksQuestion name words label names =
-    (rows : List Row) × Commands words name rows
-    × (unwrap_or (first_of (codes "LABEL") rows) [] ≡ label)
-    × (unwrap_or (all_of (codes "FILES") rows) [] ≡ names)
 
 -- The flag is given, if so it is said: for a flag that is given `clap` finds the word `true`, and
 -- else the word `false`.
@@ -343,24 +383,64 @@ AsksAllAmiss words =
     ⊎ (number_among (unwrap_or (all_of (codes "FILES") rows) [])
     (unwrap_or (first_of (codes "LABEL") rows) []) ≡ None))
 
--- They ask on which axioms the theorem with this label rests: without `--all` the first word behind
--- the command is the label, and the others, of which there is one at least, name the files.
-abbrev pub AsksAxioms : List Text → (label : Text) → List Text → Type 0
-AsksAxioms words label names =
-    (rows : List Row) × Commands words (codes "axioms") rows × IsGiven (codes "all") rows false
-    × (unwrap_or (all_of (codes "FILES") rows) [] ≡ label ∷ names) × (names ≢ [])
+-- Of the flags of `axioms` these are given, if so it is said, and this word behind `--to`.
+abbrev pub AreAxiomsFlags : List Row → (all essential : Bool) → (to : Option Text) → Type 0
+AreAxiomsFlags rows all essential to =
+    IsGiven (codes "all") rows all × IsGiven (codes "essential") rows essential
+    × (first_of (codes "to") rows ≡ to)
 
--- With `--all` they ask on which axioms each theorem rests, and all those words name the files.
-abbrev pub AsksAllAxioms : List Text → List Text → Type 0
-AsksAllAxioms words names =
-    (rows : List Row) × Commands words (codes "axioms") rows × IsGiven (codes "all") rows true
-    × (unwrap_or (all_of (codes "FILES") rows) [] ≡ names)
+-- They ask by `axioms` with these flags, and these are the words behind the command.
+abbrev pub AsksAxioms : List Text → (all essential : Bool) → (to : Option Text)
+    → (behind : List Text) → Type 0
+AsksAxioms words all essential to behind =
+    (rows : List Row) × Commands words (codes "axioms") rows
+    × AreAxiomsFlags rows all essential to
+    × (unwrap_or (all_of (codes "FILES") rows) [] ≡ behind)
 
--- They ask so without `--all`, and name no file behind the label.
+-- At most one of the flags is given.
+abbrev pub StandAlone : (all essential to : Bool) → Type 0
+StandAlone true essential to = (essential ≡ false) × (to ≡ false)
+StandAlone false essential to = (essential ≡ false) ⊎ (to ≡ false)
+
+-- They ask by `axioms` amiss: with two of its flags, or with no file behind the label.
 abbrev pub AsksAxiomsAmiss : List Text → Type 0
 AsksAxiomsAmiss words =
-    (rows : List Row) × Commands words (codes "axioms") rows × IsGiven (codes "all") rows false
-    × (length (unwrap_or (all_of (codes "FILES") rows) []) < 2)
+    (all essential : Bool) × (to : Option Text) × (behind : List Text)
+    × AsksAxioms words all essential to behind
+    × (¬ (StandAlone all essential (is_some to)) ⊎ ((all ≡ false) × (length behind < 2)))
+
+-- They ask by `statement`, with `--all` or without, and these are the words behind the command: with
+-- `--all` they name the files whose assertions are to be listed.
+abbrev pub AsksStatement : List Text → (all : Bool) → (behind : List Text) → Type 0
+AsksStatement words all behind =
+    (rows : List Row) × Commands words (codes "statement") rows × IsGiven (codes "all") rows all
+    × (unwrap_or (all_of (codes "FILES") rows) [] ≡ behind)
+
+-- They ask so without `--all`, and name no file behind the label.
+abbrev pub AsksStatementAmiss : List Text → Type 0
+AsksStatementAmiss words =
+    (behind : List Text) × AsksStatement words false behind × (length behind < 2)
+
+-- They ask by `find` for the assertions that have these patterns: the one behind the command, and
+-- each behind `--and`; with these flags, in the files with these names.
+abbrev pub AsksFind : List Text → (patterns : List Text) → (whole hypotheses : Bool) → List Text
+    → Type 0
+AsksFind words patterns whole hypotheses names =
+    (rows : List Row) × Commands words (codes "find") rows
+    × (unwrap_or (first_of (codes "PATTERN") rows) [] ∷ unwrap_or (all_of (codes "and") rows) []
+    ≡ patterns)
+    × IsGiven (codes "whole") rows whole × IsGiven (codes "hypotheses") rows hypotheses
+    × (unwrap_or (all_of (codes "FILES") rows) [] ≡ names)
+
+-- No pattern has more bytes than files may have.
+abbrev pub AreShort : (patterns : List Text) → Type 0
+AreShort patterns = AllByRecursion (λ pattern. length pattern ≤ most_bytes) patterns
+
+-- They ask so for patterns of which one has more.
+abbrev pub AsksFindAmiss : List Text → Type 0
+AsksFindAmiss words =
+    (patterns : List Text) × (whole hypotheses : Bool) × (names : List Text)
+    × AsksFind words patterns whole hypotheses names × ¬ (AreShort patterns)
 
 -- Of the flags of `show` these are given, if so it is said.
 abbrev pub AreShowFlags : List Row → (known essential uses : Bool) → Type 0
@@ -472,16 +552,21 @@ abbrev pub AsksWhole : List Text → WholeQuestion → Profile → List Text →
 AsksWhole words Check profile names = AsksUnder (codes "check") words profile names
 AsksWhole words Faults profile names = AsksUnder (codes "faults") words profile names
 AsksWhole words Why profile names = AsksUnder (codes "why") words profile names
-AsksWhole words Axioms profile names = (profile ≡ Lenient) × AsksAllAxioms words names
+AsksWhole words Axioms profile names =
+    (profile ≡ Lenient) × AsksAxioms words true false None names
 AsksWhole words Shorter profile names =
     (profile ≡ Lenient) × AsksMinimize words false true false names
 
--- They ask this question about the statement with this label in the files with these names: how a
--- theorem is proved by `show` without a flag, and by a flag what the steps of its proof use, or the
--- essential ones. No words alone ask to compare a text: it stands in a further file, which `AsksText`
--- names.
+-- They ask this question about the statement with this label in the files with these names, of which
+-- there is one at least: on which axioms a theorem rests by `axioms`, and by a flag which of these
+-- have its type code, or why it rests on one; how a theorem is proved by `show` without a flag, and
+-- by a flag what the steps of its proof use, or the essential ones. No words alone ask to compare a
+-- text: it stands in a further file, which `AsksText` names.
 abbrev pub AsksAbout : List Text → (label : Text) → Question → List Text → Type 0
-AsksAbout words label question.Axioms names = AsksAxioms words label names
+AsksAbout words label (question.Axioms essential) names =
+    AsksAxioms words false essential None (label ∷ names) × (names ≢ [])
+AsksAbout words label (question.Chain other) names =
+    AsksAxioms words false false (Some other.now) (label ∷ names) × (names ≢ [])
 AsksAbout words label question.Show names = AsksShow words label false false false names
 AsksAbout words label (question.Uses true) names = AsksShow words label false true false names
 AsksAbout words label (question.Uses false) names = AsksShow words label false false true names
@@ -489,7 +574,8 @@ AsksAbout words label (question.Form form whole) names =
     AsksForm (name_of_form form) words label whole names
 AsksAbout words label (question.Same text) names = ⊥
 AsksAbout words label (question.Users all) names = AsksUsers words label all names
-AsksAbout words label question.Statement names = AsksQuestion (codes "statement") words label names
+AsksAbout words label question.Statement names =
+    AsksStatement words false (label ∷ names) × (names ≢ [])
 AsksAbout words label question.Minimized names = AsksMinimized words label names
 
 -- They ask this question about the theorem with this label alone: by `show --known` for the steps that
@@ -498,7 +584,8 @@ abbrev pub AsksLone : List Text → (label : Text) → LoneQuestion → List Tex
 AsksLone words label lone.Known names = AsksShow words label true false false names
 AsksLone words label (lone.Try name text) names = ⊥
 
--- They ask to run this command over the files with these names.
+-- They ask to run this command over the files with these names. A line for each assertion is asked for
+-- by `statement --all`, which has no pattern.
 abbrev pub AsksRun : List Text → Command → List Text → Type 0
 AsksRun words (Whole profile asked) names = AsksWhole words asked profile names
 AsksRun words (About label asked) names = AsksAbout words label.now asked names
@@ -506,6 +593,9 @@ AsksRun words (Lone label asked) names = AsksLone words label.now asked names
 AsksRun words (File form number) names = AsksAll words form number names
 AsksRun words (commands.Shorter number duplicates) names =
     AsksShorterFile words number duplicates names
+AsksRun words (Find patterns whole hypotheses) names =
+    (AsksFind words (texts patterns.now) whole hypotheses names × AreShort (texts patterns.now))
+    ⊎ ((texts patterns.now ≡ []) × AsksStatement words true names)
 
 -- They ask for what the request says.
 abbrev pub Asks : List Text → Request → Type 0
@@ -516,6 +606,10 @@ Asks words (Run command names) = AsksRun words command (map (λ name. name.now) 
 Asks words (requests.Text asked) =
     AsksText asked.question words asked.label.now asked.proof.now
     (map (λ name. name.now) asked.names.items)
+Asks words (requests.Find asked) =
+    AsksFind words (map (λ pattern. pattern.now) asked.patterns.items) asked.whole asked.hypotheses
+    (map (λ name. name.now) asked.names.items)
+    × AreShort (map (λ pattern. pattern.now) asked.patterns.items)
 
 -- The words are refused, by a fault that is no wish for help or for the version.
 abbrev pub IsFaulty : List Text → Type 0
@@ -546,7 +640,8 @@ NamesNoCommand words = IsAccepted words × NamesNoForm words × NamesNoText word
     → ¬ Commands words (codes "check") rows × ¬ Commands words (codes "faults") rows
     × ¬ Commands words (codes "why") rows
     × ¬ Commands words (codes "axioms") rows × ¬ Commands words (codes "users") rows
-    × ¬ Commands words (codes "statement") rows × ¬ Commands words (codes "show") rows)
+    × ¬ Commands words (codes "statement") rows × ¬ Commands words (codes "find") rows
+    × ¬ Commands words (codes "show") rows)
 
 -- The words aren't understood.
 abbrev pub AreRefusedWords : List Text → Type 0
@@ -554,7 +649,10 @@ AreRefusedWords words =
     IsFaulty words
     ⊎ (NamesNoCommand words
     ⊎ (AsksAllAmiss words
-    ⊎ (AsksAxiomsAmiss words ⊎ (AsksShowAmiss words ⊎ AsksMinimizeAmiss words))))
+    ⊎ (AsksAxiomsAmiss words
+    ⊎ (AsksShowAmiss words
+    ⊎ (AsksMinimizeAmiss words
+    ⊎ (AsksStatementAmiss words ⊎ AsksFindAmiss words))))))
 
 -- why there is no request
 abbrev pub IsWordFault : List Text → Stop → Type 0

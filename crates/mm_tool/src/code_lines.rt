@@ -68,5 +68,6 @@ P14: the one entry at the end of a complete proof isn't the expression of the `$
 A1: no statement has the asked label.
 A2: the asked label isn't that of a `$p`, but of an axiom or a hypothesis.
 A3: the proof of the asked `$p` is incomplete.
+A4: the asked `$p` doesn't depend on the assertion with the label behind `--to`.
 L2: the normal proof of the asked `$p` has more than 16,777,216 labels.
 ";

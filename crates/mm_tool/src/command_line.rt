@@ -5,8 +5,9 @@ ghost use Rattle.clap.specs.Words.{App, Rule, app_of, rule_of, with_rule, with_s
 ghost use Rattle.clap.specs.declared.builder.command.Command.TheViews.{out-Command};
 ghost use Rattle.mm_tool.specs.Words.{axioms_line, bare_line, check_line, check_lines, code_rule};
 ghost use Rattle.mm_tool.specs.Words.{command_line, database_line, explain_line, faults_line};
-ghost use Rattle.mm_tool.specs.Words.{files_rule, flag_rule, form_line, forms_line, help_line};
-ghost use Rattle.mm_tool.specs.Words.{label_rule, minimize_line, normal_line, packed_line};
+ghost use Rattle.mm_tool.specs.Words.{files_rule, find_line, flag_rule, form_line, forms_line};
+ghost use Rattle.mm_tool.specs.Words.{help_line, label_rule, minimize_line, normal_line};
+ghost use Rattle.mm_tool.specs.Words.{option_rule, options_rule, packed_line, pattern_rule};
 ghost use Rattle.mm_tool.specs.Words.{profile_line, proof_rule, proofs_line, question_line};
 ghost use Rattle.mm_tool.specs.Words.{rests_line, same_line, shorter_line, show_line, small_line};
 ghost use Rattle.mm_tool.specs.Words.{statement_line, text_line, topic_rule, try_line, users_line};
@@ -26,6 +27,8 @@ pub(crate) const WHY: &str = "why";
 pub(crate) const AXIOMS: &str = "axioms";
 
 pub(crate) const STATEMENT: &str = "statement";
+
+pub(crate) const FIND: &str = "find";
 
 pub(crate) const USERS: &str = "users";
 
@@ -53,6 +56,8 @@ pub(crate) const FILES: &str = "FILES";
 
 pub(crate) const LABEL: &str = "LABEL";
 
+pub(crate) const PATTERN: &str = "PATTERN";
+
 pub(crate) const FILE: &str = "file";
 
 pub(crate) const ALL: &str = "all";
@@ -68,6 +73,14 @@ pub(crate) const ESSENTIAL: &str = "essential";
 pub(crate) const USES: &str = "uses";
 
 pub(crate) const STRICT: &str = "strict";
+
+pub(crate) const TO: &str = "to";
+
+pub(crate) const AND: &str = "and";
+
+pub(crate) const WHOLE: &str = "whole";
+
+pub(crate) const HYPOTHESES: &str = "hypotheses";
 
 pub(crate) const PROOF: &str = "PROOF";
 
@@ -92,6 +105,32 @@ fn label_argument<'a>(alloc: Global) -> Arg<'a>
     ensures local { result.global ≡ false }
 {
     Arg::new(alloc, LABEL).required(true).action(ArgAction::Set)
+}
+
+/// The pattern that an expression has, for `clap`.
+fn pattern_argument<'a>(alloc: Global) -> Arg<'a>
+    ensures rule { rule_of result ≡ pattern_rule }
+    ensures local { result.global ≡ false }
+{
+    Arg::new(alloc, PATTERN)
+        .required(true)
+        .action(ArgAction::Set)
+}
+
+/// The option with this name and a word behind it, for `clap`.
+fn option_argument<'a>(alloc: Global, name: &'a str) -> Arg<'a>
+    ensures rule { rule_of result ≡ option_rule name.entry.now }
+    ensures local { result.global ≡ false }
+{
+    Arg::new(alloc, name).long(name).action(ArgAction::Set)
+}
+
+/// The option with this name and a word behind it, which may be given again, for `clap`.
+fn options_argument<'a>(alloc: Global, name: &'a str) -> Arg<'a>
+    ensures rule { rule_of result ≡ options_rule name.entry.now }
+    ensures local { result.global ≡ false }
+{
+    Arg::new(alloc, name).long(name).action(ArgAction::Append)
 }
 
 /// The flag with this name, for `clap`.
@@ -235,7 +274,7 @@ fn form_command<'a>(
 }
 
 /// How `axioms` is used.
-pub(crate) const AXIOMS_USE: &str = "mm axioms LABEL FILES..
+pub(crate) const AXIOMS_USE: &str = "mm axioms [--essential | --to AXIOM] LABEL FILES..
        mm axioms --all FILES..";
 
 /// The command `axioms`, for `clap`.
@@ -243,24 +282,48 @@ fn axioms_command<'a>(alloc: Global) -> Result<Command<'a>, AllocError>
     ensures shape { IfOk result (λ command. app_of command ≡ axioms_line) }
     ensures local { IfOk result (λ command. (out-Command command).has_globals ≡ false) }
 {
-    Command::new(alloc, AXIOMS)
+    let command = Command::new(alloc, AXIOMS)
         .about("lists the axioms that a theorem rests on, or each theorem")
-        .override_usage(AXIOMS_USE)
-        .arg(flag_argument(alloc, ALL))?
-        .arg(files_argument(alloc))
+        .override_usage(AXIOMS_USE);
+    let command = with_argument(Ok(command), flag_argument(alloc, ALL));
+    let command = with_argument(command, flag_argument(alloc, ESSENTIAL));
+    let command = with_argument(command, option_argument(alloc, TO));
+    with_argument(command, files_argument(alloc))
 }
+
+/// How `statement` is used.
+pub(crate) const STATEMENT_USE: &str = "mm statement LABEL FILES..
+       mm statement --all FILES..";
 
 /// The command `statement`, for `clap`.
 fn statement_command<'a>(alloc: Global) -> Result<Command<'a>, AllocError>
     ensures shape { IfOk result (λ command. app_of command ≡ statement_line) }
     ensures local { IfOk result (λ command. (out-Command command).has_globals ≡ false) }
 {
-    question_command(
-        alloc,
-        STATEMENT,
-        "tells what stands at a label, and its frame",
-        "mm statement LABEL FILES..",
-    )
+    Command::new(alloc, STATEMENT)
+        .about("tells what stands at a label, and its frame, or each assertion in a line")
+        .override_usage(STATEMENT_USE)
+        .arg(flag_argument(alloc, ALL))?
+        .arg(files_argument(alloc))
+}
+
+/// How `find` is used.
+pub(crate) const FIND_USE: &str =
+    "mm find PATTERN [--and PATTERN].. [--whole] [--hypotheses] FILES..";
+
+/// The command `find`, for `clap`.
+fn find_command<'a>(alloc: Global) -> Result<Command<'a>, AllocError>
+    ensures shape { IfOk result (λ command. app_of command ≡ find_line) }
+    ensures local { IfOk result (λ command. (out-Command command).has_globals ≡ false) }
+{
+    let command = Command::new(alloc, FIND)
+        .about("lists the assertions that have a pattern, a line for each")
+        .override_usage(FIND_USE);
+    let command = with_argument(Ok(command), pattern_argument(alloc));
+    let command = with_argument(command, options_argument(alloc, AND));
+    let command = with_argument(command, flag_argument(alloc, WHOLE));
+    let command = with_argument(command, flag_argument(alloc, HYPOTHESES));
+    with_argument(command, files_argument(alloc))
 }
 
 /// The command `users`, for `clap`.
@@ -480,6 +543,7 @@ fn database_command<'a>(alloc: Global) -> Result<Command<'a>, AllocError>
 {
     let command = rests_command(alloc);
     let command = with_command(command, statement_command(alloc));
+    let command = with_command(command, find_command(alloc));
     with_command(command, show_command(alloc))
 }
 

@@ -10,7 +10,7 @@ ghost use Rattle.mm_tool.specs.ReadFiles.{AreReadAs, IsReadAs};
 ghost use Rattle.mm_tool.specs.declared.files.FileFault.TheVariants.{Memory};
 
 use crate::folder::Folder;
-use mm_text::{Counted, HollowBytes, LoadFault, Source, read_all, read_hollow};
+use mm_text::{Counted, LoadFault, Source, StrippedBytes, read_all, read_stripped};
 use std::alloc::{AllocFailed, Global};
 use thiserror::Error;
 
@@ -61,7 +61,7 @@ fn read_bytes<S: Source>(
     reader: &mut Counted<S>,
     max: usize,
     comments: Comments,
-) -> Result<HollowBytes, LoadFault>
+) -> Result<StrippedBytes, LoadFault>
     requires { faults_of reader.old < u64.MAX }
     ensures within { IfOk result (λ read. read.count ≤ max) }
     ensures read { IfOk result (λ read. (all : List ℕ)
@@ -72,11 +72,11 @@ fn read_bytes<S: Source>(
     ensures cause { IsErrOf result LoadFault.Device → S.may_fail (inner_of reader.old) }
 {
     match comments {
-        Comments::LeftOut => read_hollow(alloc, reader, max),
+        Comments::LeftOut => read_stripped(alloc, reader, max),
         Comments::Kept => {
             let bytes = read_all(alloc, reader, max)?;
             let count = bytes.len();
-            Ok(HollowBytes { bytes, count })
+            Ok(StrippedBytes { bytes, count })
         }
     }
 }
@@ -103,7 +103,7 @@ pub(crate) fn read_file<'a, F: Folder>(
         return Err(FileFault::CannotRead(name));
     };
     match read_bytes(alloc, &mut Counted::new(file), max, comments) {
-        Ok(HollowBytes { bytes, count }) => Ok(ReadFile { name, bytes, count }),
+        Ok(StrippedBytes { bytes, count }) => Ok(ReadFile { name, bytes, count }),
         Err(LoadFault::Device) => Err(FileFault::CannotRead(name)),
         Err(LoadFault::TooLong) => Err(FileFault::TooLong),
         Err(LoadFault::Memory) => Err(FileFault::Memory),

@@ -15,6 +15,7 @@ mod progress_line;
 mod rule_text;
 mod rules;
 mod say;
+mod search_note;
 mod serve;
 mod stop;
 mod texts;

@@ -68,9 +68,8 @@ const WHY: &str = "Usage: mm why [--strict] FILES..
 
 Checks a database as `mm faults` does, and explains the faults that it lists:
 where each stands, the rule and its meaning, and the facts that show it, as what
-a step's hypotheses ask and what its entries give. Of faults of proofs it
-explains the first ten. A fault that ended the run is explained last, always:
-look at that one first.
+a step's hypotheses ask and what its entries give. A fault that ended the run is
+explained first. Of faults of proofs the first ten are explained.
 
 Options:
   --strict   as for check: `mm help check`
@@ -85,27 +84,35 @@ Example:
   mm why set.mm
 ";
 
-const AXIOMS: &str = "Usage: mm axioms LABEL FILES..
+const AXIOMS: &str = "Usage: mm axioms [--essential | --to AXIOM] LABEL FILES..
        mm axioms --all FILES..
 
 Checks the database, and lists the axioms that the theorem with this label
 rests on, in the order of the database. Those are all `$a` statements: in set.mm
-syntax and definitions too, and the axioms proper begin with `ax-`.
+syntax and definitions too. No name tells an axiom from a definition: set.mm
+itself calls `df-clab`, `df-cleq` and `df-clel` axioms.
 
-Options:
-  --all   what each theorem rests on, a line for each
+Options, of which at most one is given:
+  --essential   of the axioms those alone that have the type code of the
+                theorem, as `|-`, so that those of syntax are left out
+  --to AXIOM    why the theorem rests on the assertion with the label AXIOM: a
+                shortest chain of labels, each of which uses the next
+  --all         what each theorem rests on, a line for each
 
 Replies:
   LABEL, one on each line                                           status 0
-      The axioms.
+      The axioms; with --to the chain, from the theorem to AXIOM.
   ? LABEL, one on each line, after the axioms                       status 3
       The theorems that it rests on and whose proofs hold a `?`.
   ask A1 LABEL                                                      status 1
       No statement has this label.
   ask A2 LABEL                                                      status 1
-      It is the label of a hypothesis or of an axiom.
+      It is the label of a hypothesis or of an axiom; as AXIOM, that of a
+      hypothesis.
   ask A3 LABEL                                                      status 3
       The proof of this theorem holds a `?`.
+  ask A4 LABEL, with --to                                           status 1
+      The theorem doesn't rest on AXIOM.
   no, limit or load                                                 status 1, 4
       The database is refused: `mm help check`.
   with --all, one on each line, in the order of the database:
@@ -115,7 +122,8 @@ Replies:
 
 Examples:
   mm axioms id set.mm
-  mm axioms id set.mm | grep '^ax-'
+  mm axioms --essential 2p2e4 set.mm
+  mm axioms --to ax-ext 2p2e4 set.mm
   mm axioms --all set.mm
 ";
 
@@ -143,9 +151,14 @@ Example:
 ";
 
 const STATEMENT: &str = "Usage: mm statement LABEL FILES..
+       mm statement --all FILES..
 
 Checks the database, and tells what stands at this label: a statement of any
 kind, and of an axiom or a theorem its frame.
+
+Options:
+  --all   a line for each axiom and each theorem, as `mm find` prints it. No
+          proof is judged
 
 Replies:
   FILE:LINE:COLUMN, and then lines as in the file, with no end      status 0
@@ -153,13 +166,44 @@ Replies:
       each mandatory hypothesis, in the order of the database; `$d X Y` for each
       mandatory distinct pair; of a theorem `also $d X Y ..` for each `$d` that
       says more, which holds in its proof. At the end the statement itself.
+  LABEL KIND : HYPOTHESIS & .. => EXPRESSION, with --all            status 0
   ask A1 LABEL                                                      status 1
       No statement has this label.
   no, limit or load                                                 status 1, 4
       The database is refused: `mm help check`.
 
-Example:
+Examples:
   mm statement ax-mp set.mm
+  mm statement --all set.mm
+";
+
+const FIND: &str = "Usage: mm find PATTERN [--and PATTERN].. [--whole] [--hypotheses] FILES..
+
+Lists the axioms and theorems whose expressions have this pattern, in the order
+of the database, a line for each. No proof is judged, so that it answers where
+proofs are at fault or unfinished.
+
+PATTERN is one word of the command line: tokens with spaces between them. `$?`
+stands for one symbol, `$*` for any number of them, none too, and another token
+for itself. The pattern may stand anywhere in an expression.
+
+Options:
+  --and PATTERN   this pattern must be met too; it may be given again
+  --whole         a pattern is that of a whole expression, with its type code
+                  or without
+  --hypotheses    a pattern may be that of a `$e` hypothesis too
+
+Replies:
+  LABEL KIND : HYPOTHESIS & .. => EXPRESSION, one on each line      status 0
+      An axiom, `$a`, or a theorem, `$p`: its `$e` hypotheses with `&` between
+      them and `=>` behind them, where it has any, and what it states. Nothing
+      at all where no assertion has the pattern.
+  no or load                                                        status 1, 4
+      A statement breaks a rule of the text or of meaning: `mm help check`.
+
+Examples:
+  mm find '( $* -> ph )' set.mm
+  mm find '( $? + $? ) = $*' --whole set.mm
 ";
 
 const SHOW: &str = "Usage: mm show [--known | --essential | --uses] LABEL FILES..
@@ -300,7 +344,9 @@ label by what the library has before it: its small text has fewer bytes, it has
 no more steps, and it rests on no further axiom or unproved theorem. It is
 judged as any proof is.
 That no shorter one is found doesn't say that there is none.
-On a terminal, --all and --list tell on standard error how far they have come.
+Standard error gets the bytes and steps before and after; with --all and --list
+how many theorems are left as they are, as their proofs are too long to search,
+and on a terminal how far the search has come.
 
 Marks in the comment right before a statement are heeded. A theorem marked
 `(Proof modification is discouraged.)` keeps its proof; an assertion marked
@@ -475,6 +521,12 @@ fn statement_page() -> &'static str
     STATEMENT
 }
 
+fn find_page() -> &'static str
+    ensures { IsTrue (is_page_of (codes "find") result.now) }
+{
+    FIND
+}
+
 fn show_page() -> &'static str
     ensures { IsTrue (is_page_of (codes "show") result.now) }
 {
@@ -536,7 +588,7 @@ fn version_page() -> &'static str
 }
 
 /// A page for each command, in the order of the command line.
-pub(crate) fn program_pages() -> [Page<'static>; 16]
+pub(crate) fn program_pages() -> [Page<'static>; 17]
     ensures commands { map (λ page. page.command.now) result ≡ command_names }
     ensures usage { AllByRecursion (λ page. IsTrue (is_page_of page.command.now page.text.now))
         result }
@@ -565,6 +617,10 @@ pub(crate) fn program_pages() -> [Page<'static>; 16]
         Page {
             command: "statement",
             text: statement_page(),
+        },
+        Page {
+            command: "find",
+            text: find_page(),
         },
         Page {
             command: "show",

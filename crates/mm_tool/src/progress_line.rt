@@ -14,8 +14,9 @@ use crate::say::say_text;
 use itoa::Buffer;
 use mm_base::File;
 use mm_check::{Command, reply_to};
+use mm_minimize::{SearchWatch, Searched};
 use mm_text::{Counted, WriteFault};
-use mm_verdict::{Reply, SoFar, Unwatched, Watch};
+use mm_verdict::{Reply, SoFar, Watch};
 use std::alloc::AllocError;
 use std::io::Write;
 
@@ -29,6 +30,21 @@ pub(crate) struct ProgressLine<P> {
     is_shown: bool,
     /// Whether the line stands there, and nothing behind it.
     stands: bool,
+    /// What a search for shorter proofs came to.
+    searched: Option<Searched>,
+}
+
+/// What a search for shorter proofs came to, where no line is shown.
+#[derive(Clone, Copy)]
+struct Unshown {
+    searched: Option<Searched>,
+}
+
+/// A reply, and what a search for shorter proofs came to on the way to it, where there was one.
+#[derive(Drop)]
+pub(crate) struct Watched {
+    pub(crate) reply: Reply,
+    pub(crate) searched: Option<Searched>,
 }
 
 /// Writes a text, and a number behind it.
@@ -71,6 +87,7 @@ impl<P> ProgressLine<P> {
             device: Counted::new(device),
             is_shown,
             stands: false,
+            searched: None,
         }
     }
 }
@@ -127,25 +144,48 @@ impl<P: Write> Watch for ProgressLine<P> {
     }
 }
 
+impl<P: Write> SearchWatch for ProgressLine<P> {
+    fn searched(&mut self, searched: Searched) {
+        self.searched = Some(searched);
+    }
+}
+
+impl Watch for Unshown {
+    fn told(&mut self, _so_far: SoFar) {}
+}
+
+impl SearchWatch for Unshown {
+    fn searched(&mut self, searched: Searched) {
+        self.searched = Some(searched);
+    }
+}
+
 /// The reply to a command. Where that takes long and progress is shown, it tells how far the reply
-/// has come.
+/// has come. What a search came to is given back in any case.
 pub(crate) fn watched_reply<P: Write>(
     resources: Resources,
     command: &Command,
     files: &[File],
     progress: &mut ProgressLine<P>,
-) -> Result<Reply, AllocError>
+) -> Result<Watched, AllocError>
     requires { AsksHanded (map plain_file files.now) command.now }
-    ensures reply { IfOk result (λ reply. IsReplyTo (map plain_file files.now) command.now
-        reply.text.items (number_of reply.status)) }
+    ensures reply { IfOk result (λ watched. IsReplyTo (map plain_file files.now) command.now
+        watched.reply.text.items (number_of watched.reply.status)) }
     ensures unshown { StaysUnshown progress.old progress.new }
     ensures ended { progress.old.is_shown ≡ true → progress.new.stands ≡ false }
 {
     let Resources { alloc, seed } = resources;
     if !progress.is_shown {
-        return reply_to(alloc, seed, command, files, &mut Unwatched);
+        let mut unshown = Unshown { searched: None };
+        let reply = reply_to(alloc, seed, command, files, &mut unshown)?;
+        let searched = unshown.searched;
+        return Ok(Watched { reply, searched });
     }
     let reply = reply_to(alloc, seed, command, files, progress);
     progress.end();
-    reply
+    let searched = progress.searched;
+    match reply {
+        Ok(reply) => Ok(Watched { reply, searched }),
+        Err(fault) => Err(fault),
+    }
 }

@@ -888,6 +888,23 @@ The reply to `mm show p f.mm`:
 ",
     },
     RuleText {
+        code: "A4",
+        text: "A4: the asked `$p` doesn't depend on the assertion with the label behind `--to`.
+Only `mm axioms --to` judges it, after A1 to A3 of the `$p`, and A1 and A2 of
+the assertion.
+Usual cause: the proof uses the assertion nowhere, and nothing that it uses
+does.
+Remedy: `mm axioms` lists what the theorem depends on.
+
+A file:
+    $c a b $. one $a a $. two $a a $.
+    p $p a $= one $.
+
+The reply to `mm axioms --to two p f.mm`:
+    ask A4 p
+",
+    },
+    RuleText {
         code: "L2",
         text: "L2: the normal proof of the asked `$p` has more than 16,777,216 labels. Only `mm
 normal` judges it.

@@ -1,7 +1,8 @@
 //! The program over its words and devices.
 
 ghost use Rattle.std.specs.Prelude.{◌≡◌, ◌↔◌, ◌+◌, ◌<◌, ◌≤◌, ◌++◌, ◌⊎◌, map, codes, string_bytes};
-ghost use Rattle.std.specs.Prelude.{IfOk, IfErr, IfSome, OnOk, OnErr};
+ghost use Rattle.std.specs.Prelude.{IfOk, IfErr, IfSome, List, None, OnOk, OnErr, ℕ};
+ghost use Rattle.mm_code.specs.Layout.{texts};
 ghost use Rattle.mm_text.specs.Device.{faults_of, inner_of};
 ghost use Rattle.mm_text.specs.Files.{plain_file};
 ghost use Rattle.mm_rules.specs.Status.{number_of};
@@ -11,25 +12,30 @@ ghost use Rattle.mm_tool.specs.Answer.{outcome_of, quiet};
 ghost use Rattle.mm_tool.specs.Ending.{Stops, TellsNotes};
 ghost use Rattle.mm_tool.specs.Ending.{AsksNamed, IsTextCommand, IsTextReplyOver, StopsText};
 ghost use Rattle.mm_tool.specs.Ending.{StaysUnshown, StopsRun, TakesWhole, TellsLine, error_line};
-ghost use Rattle.mm_tool.specs.Ending.{stop_status};
+ghost use Rattle.mm_tool.specs.Ending.{label_of, stop_status};
 ghost use Rattle.mm_check.specs.declared.command.Command.TheVariants.{Whole};
 ghost use Rattle.mm_check.specs.declared.question.WholeQuestion.TheVariants.{Check};
 ghost use Rattle.mm_step.specs.declared.profile.Profile.{Profile};
 ghost use Rattle.mm_tool.specs.Folder.{plain_read};
 ghost use Rattle.mm_tool.specs.declared.files.Comments.TheVariants.{LeftOut};
 ghost use Rattle.mm_tool.specs.declared.stop.Stop.TheVariants.{CannotWrite};
+ghost use Rattle.mm_tool.specs.declared.words.Request.TheVariants.{Find};
+ghost use Rattle.mm_tool.specs.Words.{Asks, AsksRun};
+ghost use Rattle.mm_tool.specs.declared.texts.Texts.{Texts};
+ghost use Rattle.mm_check.specs.declared.command.Command.{Command};
+ghost use Rattle.clap.specs.Words.{Text};
 
 use crate::answer::Answer;
 use crate::explain::explanation;
 use crate::files::{Comments, FileFault, ReadFile, read_file, read_files};
 use crate::folder::{Arguments, Folder, Resources};
 use crate::help::help_text;
-use crate::label_note::notes_beside;
 use crate::progress_line::{ProgressLine, watched_reply};
+use crate::search_note::all_notes;
 use crate::stop::Stop;
 use crate::texts::Texts;
 use crate::unread::{asked_label, labelled, tell_unread};
-use crate::words::{AskedText, Request, TextQuestion, request_of};
+use crate::words::{AskedPatterns, AskedText, Request, TextQuestion, request_of};
 use mm_base::File;
 use mm_check::{Command, LoneQuestion, Question, WholeQuestion, alike_files_have_one_reply};
 use mm_rules::Status;
@@ -126,8 +132,8 @@ fn comments_for(command: &Command<'_>, max: usize) -> Comments
 }
 
 /// Runs a command over the database in the files with these names, which may hold at most `max`
-/// bytes in all, and writes the reply. The notes beside it, on files that weren't included and on an
-/// asked label that no statement has, are made before it is written.
+/// bytes in all, and writes the reply. The notes beside it, on files that weren't included, on an
+/// asked label that no statement has and on what a search came to, are made before it is written.
 ///
 /// # Errors
 ///
@@ -163,9 +169,9 @@ pub(crate) fn run_over<'a, F: Folder, O: Write, P: Write>(
         Err(FileFault::Memory) => return Err(Stop::Memory),
     };
     let files = plain_files(alloc, &files)?;
-    let reply = watched_reply(resources, command, &files, progress)?;
-    let notes = notes_beside(alloc, seed, &files, command, &reply.text)?;
-    noted_reply(out, &reply, notes)
+    let watched = watched_reply(resources, command, &files, progress)?;
+    let notes = all_notes(alloc, seed, &files, command, &watched)?;
+    noted_reply(out, &watched.reply, notes)
 }
 
 /// The question about the text in this file and the theorem with a label.
@@ -226,6 +232,73 @@ fn text_over<'a, F: Folder, O: Write, P: Write>(
     run_over(resources, folder, &command, names, max, out, progress)
 }
 
+/// The bytes of these words.
+fn bytes_of<'w>(alloc: Global, words: &[&'w str]) -> Result<Vec<&'w [u8]>, AllocError>
+    ensures { IfOk result (λ bytes. texts bytes.items ≡ map (λ word. word.now) words.now) }
+{
+    let mut bytes = Vec::new(alloc);
+    for word in words {
+        bytes.push(word.as_bytes())?;
+    }
+    Ok(bytes)
+}
+
+/// The command for the assertions that have these patterns.
+fn find_command<'p>(asked: &AskedPatterns<'_>, patterns: &'p [&'p [u8]]) -> Command<'p>
+    requires { texts patterns.now ≡ map (λ pattern. pattern.now) asked.now.patterns.items }
+    ensures asks { (words : List Text) → Asks words (Find asked.now)
+        → AsksRun words result (map (λ name. name.now) asked.now.names.items) }
+    ensures unlabelled { label_of result ≡ None }
+{
+    Command::Find {
+        patterns,
+        whole: asked.whole,
+        hypotheses: asked.hypotheses,
+    }
+}
+
+/// Lists the assertions that have these patterns, and writes the reply.
+///
+/// # Errors
+///
+/// As for `run_over`.
+fn find_over<'a, F: Folder, O: Write, P: Write>(
+    resources: Resources,
+    folder: &F,
+    asked: &AskedPatterns<'a>,
+    max: usize,
+    out: &mut Counted<O>,
+    progress: &mut ProgressLine<P>,
+) -> Result<Answer, Stop<'a>>
+    requires faults { faults_of out.old < u64.MAX }
+    requires asked { (words : List Text) × Asks words (Find asked.now) }
+    ensures replies { IfOk result (λ answer. (words : List Text) → Asks words (Find asked.now)
+        → (text : List ℕ) × (command : Command)
+        × AsksRun words command (map (λ name. name.now) asked.now.names.items)
+        × IsReplyOver (F.holds folder.now) command
+        (map (λ name. name.now) asked.now.names.items) max text (outcome_of answer)
+        × TakesWhole O.contents text out.old out.new) }
+    ensures stops { IfErr result (λ stop. (texts : Texts) (words : List Text)
+        → Asks words (Find asked.now) → Stops O.contents (F.holds folder.now)
+        (F.may_fail folder.now) texts max words stop out.old out.new) }
+    ensures unshown { StaysUnshown progress.old progress.new }
+{
+    let patterns = bytes_of(resources.alloc, &asked.patterns)?;
+    let command = find_command(asked, &patterns);
+    match run_over(
+        resources,
+        folder,
+        &command,
+        &asked.names,
+        max,
+        out,
+        progress,
+    ) {
+        Ok(answer) => Ok(answer),
+        Err(stop) => Err(labelled(stop, None)),
+    }
+}
+
 /// Does what the words ask for, and gives back what goes with the answer that was written.
 fn answer<'a, F: Folder, O: Write, P: Write>(
     resources: Resources,
@@ -263,6 +336,7 @@ fn answer<'a, F: Folder, O: Write, P: Write>(
                 Err(stop) => Err(labelled(stop, asked_label(&command))),
             }
         }
+        Request::Find(asked) => find_over(resources, folder, &asked, BYTE_LIMIT, out, progress),
         Request::Text(asked) => {
             match text_over(resources, folder, &asked, BYTE_LIMIT, out, progress) {
                 Ok(answer) => Ok(answer),

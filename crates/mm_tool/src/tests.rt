@@ -137,6 +137,14 @@ fn replies(rt: HostRuntime) {
             ["mm", "axioms", "--all", "first.mm"].as_slice(),
             b"th tze tpl\n".as_slice(),
         ),
+        (
+            ["mm", "axioms", "--to", "tpl", "th", "first.mm"].as_slice(),
+            b"th\ntpl\n".as_slice(),
+        ),
+        (
+            ["mm", "find", "$? + $?", "first.mm", "--and", "t"].as_slice(),
+            b"tpl $a : term ( t + r )\n".as_slice(),
+        ),
         (["mm", "statement", "tze", "first.mm"].as_slice(), STATED),
         (
             ["mm", "show", "th", "first.mm"].as_slice(),
@@ -196,7 +204,7 @@ fn asks_by_its_words(rt: HostRuntime) {
     };
     let axioms = Command::About {
         label: b"th".as_slice(),
-        question: Question::Axioms,
+        question: Question::Axioms { essential: false },
     };
     let all_axioms = Command::Whole {
         profile: Profile::Lenient,

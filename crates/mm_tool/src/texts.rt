@@ -36,8 +36,10 @@ Commands:
   why [--strict] FILES..
                          checks the database as faults does, and explains what it lists: where each
                          fault stands, its rule, and what was asked and found
-  axioms LABEL FILES..   checks the database, and lists the axioms that the theorem with this
-                         label rests on
+  axioms [--essential | --to AXIOM] LABEL FILES..
+                         checks the database, and lists the axioms that the theorem with this
+                         label rests on; with --essential those that have its type code; with --to
+                         why it rests on this one, a chain of uses
   axioms --all FILES..   likewise of each theorem, a line for each
   users [--all] LABEL FILES..
                          checks the database, and lists the theorems whose proofs use the assertion
@@ -45,6 +47,13 @@ Commands:
   statement LABEL FILES..
                          checks the database, and tells what stands at this label, a statement of
                          any kind: where it begins, its frame, and what it says
+  statement --all FILES..
+                         lists each axiom and each theorem in a line, whatever their proofs
+  find PATTERN [--and PATTERN].. [--whole] [--hypotheses] FILES..
+                         lists the axioms and theorems that have this pattern, whatever their
+                         proofs: tokens, `$?` for one symbol, `$*` for any number of them; with
+                         --and this one too, with --whole as a whole expression, with --hypotheses
+                         also in hypotheses
   show [--known | --essential | --uses] LABEL FILES..
                          checks the database, and lists the steps of the proof of the theorem with
                          this label; with --known the steps that pass, of an unfinished proof or of
@@ -124,9 +133,9 @@ Replies of faults, on standard output:
 
 Replies of why, on standard output:
   FILE:LINE:COLUMN: RULE: MEANING, in the proof of LABEL, at step STEP
-      The fault that faults tells in the same place of its list. Its facts follow, in lines that
-      begin with spaces. At most ten faults are explained; the last line counts all. Status 1; 4
-      where the first one is a limit.
+      A fault that faults tells: first the one that ended the run, if one did, and then the others
+      in their order. Its facts follow, in lines that begin with spaces. At most ten faults of
+      proofs are explained; the last line counts all. The status is that of faults.
   Where nothing is at fault: the reply of check, with its status.
 
 Replies of axioms, on standard output:
@@ -134,6 +143,10 @@ Replies of axioms, on standard output:
       The axioms that the theorem rests on, in the order of the database. Status 0.
   ? LABEL, one on each line, after the axioms
       The theorems that it rests on and whose proofs hold a `?`. Status 3.
+  With --to: LABEL, one on each line, a shortest chain from the theorem to AXIOM, in which each uses
+  the next. Status 0.
+  ask A4 LABEL, with --to
+      The theorem does not rest on AXIOM. Status 1.
   With --all, one on each line: LABEL of a theorem, and then its axioms, and ?LABEL for each of
   those theorems; or ? LABEL of a theorem whose own proof holds a `?`. Status 0, or 3 if there is
   one.
@@ -147,6 +160,12 @@ Reply of statement, on standard output:
       Where the statement begins. Of an axiom or a theorem a line follows for each mandatory
       hypothesis, `$d X Y` for each mandatory distinct pair, and of a theorem `also $d X Y ..` for
       each `$d` that says more, which holds in its proof. The last line is the statement. Status 0.
+
+Reply of statement --all and of find, on standard output:
+  LABEL KIND : HYPOTHESIS & .. => EXPRESSION, one on each line
+      An axiom, `$a`, or a theorem, `$p`: its `$e` hypotheses, where it has any, and what it states.
+      Status 0, also where nothing is found. Where a statement breaks a rule of the text or of
+      meaning: the reply of check that says so.
 
 Reply of show, on standard output:
   STEP NAME EXPRESSION, one on each line
@@ -207,14 +226,18 @@ Statuses:
   4  a file, a device, a limit or memory stood in the way
 
 Where there is no reply, standard error says why: which word is not understood, or which file cannot
-be read. Where a word may stand in the wrong place, it says what that word was taken for.
+be read. Where a word may stand in the wrong place, it says what that word was taken for. After the
+reply of minimize it says by how much a proof became shorter, or how many theorems were left as they
+are, as their proofs are too long to search.
 
 Examples:
   mm check set.mm
   mm check --strict set.mm
   mm axioms id set.mm
   mm axioms --all set.mm
+  mm axioms --to ax-ext 2p2e4 set.mm
   mm statement ax-mp set.mm
+  mm find '( $* -> ph )' set.mm
   mm show id set.mm
   mm show --essential id set.mm
   mm packed id set.mm

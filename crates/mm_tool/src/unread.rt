@@ -24,7 +24,10 @@ pub(crate) fn asked_label<'a>(command: &Command<'a>) -> Option<&'a [u8]>
     ensures { option_map (λ label. label.now) result ≡ label_of command.now }
 {
     match command {
-        Command::Whole { .. } | Command::File { .. } | Command::Shorter { .. } => None,
+        Command::Whole { .. }
+        | Command::File { .. }
+        | Command::Shorter { .. }
+        | Command::Find { .. } => None,
         Command::About { label, .. } | Command::Lone { label, .. } => Some(*label),
     }
 }

@@ -1,13 +1,14 @@
 //! What the program is asked by its words: the requests that are made of what `clap` found in them.
 
 ghost use Rattle.std.specs.Prelude.{◌≡◌, ◌≢◌, ◌↔◌, ◌∷◌, [], List, map, IfOk, IfErr, IfSome, IfNone};
-ghost use Rattle.std.specs.Prelude.{IsTrue, false, ℕ, codes, option_map, position, unwrap_or};
+ghost use Rattle.std.specs.Prelude.{IsTrue, false, true, is_some, ℕ, codes, option_map, position, unwrap_or};
 ghost use Rattle.std.specs.Str.{bytes_eq};
 ghost use Rattle.clap.specs.Words.{Text, all_of, app_of, first_of, found_of, kind_of, rows_of};
 ghost use Rattle.mm_check.specs.declared.command.Command.TheVariants.{File, Whole};
 ghost use Rattle.mm_check.specs.declared.question.WholeQuestion.TheVariants.{Shorter};
-ghost use Rattle.mm_tool.specs.Words.{AreMatchesOf, AreSeveral, Asks, AsksAbout, AsksQuestion};
-ghost use Rattle.mm_tool.specs.Words.{AreMinimizeFlags, AsksRun, AsksShow};
+ghost use Rattle.mm_tool.specs.Words.{AreAxiomsFlags, AreMatchesOf, AreSeveral, AreShort, Asks};
+ghost use Rattle.mm_tool.specs.Words.{AreMinimizeFlags, AsksAbout, AsksAxioms, AsksRun};
+ghost use Rattle.mm_tool.specs.Words.{AsksShow, AsksStatement, StandAlone};
 ghost use Rattle.mm_tool.specs.Words.{AsksUnder, AsksWhole, Commands, DoAgree, IsFilesFault};
 ghost use Rattle.mm_tool.specs.Words.{IsAllFault, IsFaultOfKind, IsGiven, IsOfKind, IsWordFault};
 ghost use Rattle.mm_tool.specs.Words.{IsNamingFault, NamesFile, NamesNoForm, NamesNoText};
@@ -18,15 +19,17 @@ ghost use Rattle.mm_step.specs.declared.profile.Profile.TheVariants.{Lenient};
 ghost use Rattle.mm_tool.specs.declared.words.Request.TheVariants.{Run};
 
 use crate::command_line::{
-    ALL, AXIOMS, AXIOMS_USE, CHECK, CODE, COMMAND, DUPLICATES, ESSENTIAL, EXPLAIN, FAULTS, FILE,
-    FILES, HELP, KNOWN, LABEL, LIST, MINIMIZE, MINIMIZE_USE, NORMAL, PACKED, PROOF, SAME, SHOW,
-    SMALL, STATEMENT, STRICT, TRY, USERS, USES, VERSION, WHY, whole_command,
+    ALL, AND, AXIOMS, AXIOMS_USE, CHECK, CODE, COMMAND, DUPLICATES, ESSENTIAL, EXPLAIN, FAULTS,
+    FILE, FILES, FIND, FIND_USE, HELP, HYPOTHESES, KNOWN, LABEL, LIST, MINIMIZE, MINIMIZE_USE,
+    NORMAL, PACKED, PATTERN, PROOF, SAME, SHOW, SMALL, STATEMENT, STATEMENT_USE, STRICT, TO, TRY,
+    USERS, USES, VERSION, WHOLE, WHY, whole_command,
 };
 use crate::stop::Stop;
 use clap::error::ErrorKind;
 use clap::{ArgMatches, Command, Error};
 use mm_check::{LoneQuestion, Question, WholeQuestion};
 use mm_step::Profile;
+use mm_text::BYTE_LIMIT;
 use mm_verdict::Form;
 use std::alloc::{AllocError, Global};
 
@@ -43,6 +46,9 @@ const ADVICE: &str = "\n\n  tip: to pass '";
 
 /// How it begins the usage, which comes after that advice.
 const USAGE: &str = "\n\nUsage: ";
+
+/// How it says that files are missing.
+const NO_FILES: &str = "\n  <FILES>...";
 
 /// What is asked about a proof's text and a theorem.
 #[derive(Clone, Copy, PartialEq, Eq, Debug)]
@@ -63,6 +69,16 @@ pub(crate) struct AskedText<'a> {
     pub(crate) names: Vec<&'a str>,
 }
 
+/// A question for the assertions that have these patterns, in the database in the files with these
+/// names.
+#[derive(Drop)]
+pub(crate) struct AskedPatterns<'a> {
+    pub(crate) patterns: Vec<&'a str>,
+    pub(crate) whole: bool,
+    pub(crate) hypotheses: bool,
+    pub(crate) names: Vec<&'a str>,
+}
+
 /// What the program is asked.
 #[derive(Drop)]
 pub(crate) enum Request<'a> {
@@ -77,6 +93,8 @@ pub(crate) enum Request<'a> {
         command: mm_check::Command<'a>,
         names: Vec<&'a str>,
     },
+    /// To list the assertions that have these patterns.
+    Find(AskedPatterns<'a>),
     /// To read a proof's text, and to say what it is to a theorem.
     Text(AskedText<'a>),
 }
@@ -111,9 +129,21 @@ fn kin_of(word: &str) -> &'static str {
     }
 }
 
+/// Where a command alone is given, a label is missing before its files. For `clap` these are all
+/// files, as with `--all` and `--list`.
+fn with_label(alloc: Global, text: String, words: &[&str]) -> Result<String, AllocError> {
+    let [_, AXIOMS | MINIMIZE] = words else {
+        return Ok(text);
+    };
+    match text.split_once(NO_FILES) {
+        Some((before, after)) => format!(in alloc; "{before}\n  <LABEL>{NO_FILES}{after}"),
+        None => Ok(text),
+    }
+}
+
 /// What is said of words that `clap` refuses: which word isn't understood, and the usage.
 fn refusal(alloc: Global, error: &Error, words: &[&str]) -> Result<String, AllocError> {
-    let text = format!(in alloc; "{error}")?;
+    let text = with_label(alloc, format!(in alloc; "{error}")?, words)?;
     let kin = match words.get(1) {
         Some(word) => kin_of(word),
         None => "",
@@ -167,6 +197,14 @@ fn asked_word<'a>(command: &ArgMatches<'a>, argument: &str) -> &'a str
         Some(word) => word,
         None => "",
     }
+}
+
+/// The word that is given for an argument, in the matches of its command, where there is one.
+fn optional_word<'a>(command: &ArgMatches<'a>, argument: &str) -> Option<&'a str>
+    ensures { option_map (λ word. word.now) result
+        ≡ first_of argument.now (rows_of (found_of command.now)) }
+{
+    command.get_str(argument)
 }
 
 /// Whether a flag is given, in the matches of its command.
@@ -286,6 +324,50 @@ fn label_and_names<'a>(
     }
 }
 
+/// Which flags of `axioms` are given, and the word behind `--to`.
+#[derive(Clone, Copy)]
+struct AxiomsFlags<'a> {
+    all: bool,
+    essential: bool,
+    to: Option<&'a str>,
+}
+
+/// Those in the matches of the command.
+fn axioms_flags<'a>(matches: &ArgMatches<'a>) -> AxiomsFlags<'a>
+    ensures { AreAxiomsFlags (rows_of (found_of matches.now)) result.all result.essential
+        (option_map (λ label. label.now) result.to) }
+{
+    AxiomsFlags {
+        all: is_given(matches, ALL),
+        essential: is_given(matches, ESSENTIAL),
+        to: optional_word(matches, TO),
+    }
+}
+
+/// Whether at most one of the flags of `axioms` is given.
+fn stand_alone(all: bool, essential: bool, to: bool) -> bool
+    ensures { IsTrue result ↔ StandAlone all essential to }
+{
+    match all {
+        true => !essential && !to,
+        false => !essential || !to,
+    }
+}
+
+/// The question that the flags ask about a theorem; behind `--to` stands another label.
+fn axioms_question<'a>(essential: bool, to: Option<&'a str>) -> Question<'a>
+    ensures { (words names : List Text) (label : Text)
+        → StandAlone false essential (is_some to.entry)
+        → AsksAxioms words false essential (option_map (λ other. other.now) to.entry)
+        (label ∷ names)
+        → names ≢ [] → AsksAbout words label result names }
+{
+    match to {
+        Some(other) => Question::Chain(other.as_bytes()),
+        None => Question::Axioms { essential },
+    }
+}
+
 /// What the matches of the command `axioms` ask for: with `--all` each word names a file, else the
 /// first is a label.
 fn axioms_request<'a>(alloc: Global, matches: &ArgMatches<'a>) -> Result<Request<'a>, Stop<'a>>
@@ -297,7 +379,13 @@ fn axioms_request<'a>(alloc: Global, matches: &ArgMatches<'a>) -> Result<Request
         → IsWordFault words stop) }
 {
     let words = values_of(alloc, matches, FILES)?;
-    if is_given(matches, ALL) {
+    let flags = axioms_flags(matches);
+    if !stand_alone(flags.all, flags.essential, flags.to.is_some()) {
+        return Err(Stop::Usage(format!(in alloc;
+            "mm: --all, --essential and --to exclude each other\nUsage: {AXIOMS_USE}\n"
+        )?));
+    }
+    if flags.all {
         let command = mm_check::Command::Whole {
             profile: Profile::Lenient,
             question: WholeQuestion::Axioms,
@@ -310,9 +398,100 @@ fn axioms_request<'a>(alloc: Global, matches: &ArgMatches<'a>) -> Result<Request
     let (label, names) = label_and_names(alloc, &words, AXIOMS_USE)?;
     let command = mm_check::Command::About {
         label: label.as_bytes(),
-        question: Question::Axioms,
+        question: axioms_question(flags.essential, flags.to),
     };
     Ok(Request::Run { command, names })
+}
+
+/// The request to list all assertions in the files with these names.
+fn assertions_request(names: Vec<&str>) -> Request<'_>
+    ensures { (words : List Text) → AsksStatement words true (map (λ name. name.now) names.entry.items)
+        → Asks words result }
+{
+    Request::Run {
+        command: mm_check::Command::Find {
+            patterns: &[],
+            whole: true,
+            hypotheses: false,
+        },
+        names,
+    }
+}
+
+/// What the matches of the command `statement` ask for: with `--all` each word names a file, else
+/// the first is a label.
+fn statement_request<'a>(alloc: Global, matches: &ArgMatches<'a>) -> Result<Request<'a>, Stop<'a>>
+    ensures request { IfOk result (λ request. (words : List Text)
+        → Commands words (codes "statement") (rows_of (found_of matches.now))
+        → Asks words request) }
+    ensures fault { IfErr result (λ stop. (words : List Text)
+        → Commands words (codes "statement") (rows_of (found_of matches.now))
+        → IsWordFault words stop) }
+{
+    let words = values_of(alloc, matches, FILES)?;
+    if is_given(matches, ALL) {
+        return Ok(assertions_request(words));
+    }
+    let (label, names) = label_and_names(alloc, &words, STATEMENT_USE)?;
+    let command = mm_check::Command::About {
+        label: label.as_bytes(),
+        question: Question::Statement,
+    };
+    Ok(Request::Run { command, names })
+}
+
+/// The patterns in the matches of the command `find`: the one behind the command, and each behind
+/// `--and`.
+fn patterns_of<'a>(alloc: Global, matches: &ArgMatches<'a>) -> Result<Vec<&'a str>, AllocError>
+    ensures { IfOk result (λ patterns. map (λ pattern. pattern.now) patterns.items
+        ≡ unwrap_or (first_of (codes "PATTERN") (rows_of (found_of matches.now))) []
+        ∷ unwrap_or (all_of (codes "and") (rows_of (found_of matches.now))) []) }
+{
+    let others = values_of(alloc, matches, AND)?;
+    let mut patterns = Vec::new(alloc);
+    patterns.push(asked_word(matches, PATTERN))?;
+    patterns.extend_from_slice(&others)?;
+    Ok(patterns)
+}
+
+/// Whether no pattern has more bytes than files may have.
+#[tactic(auto, using(crate::proofs::AskedWords::short_more, crate::proofs::AskedWords::short_at))]
+fn are_short(patterns: &[&str]) -> bool
+    ensures short { IsTrue result → AreShort (map (λ pattern. pattern.now) patterns.now) }
+    ensures long { result ≡ false → ¬ (AreShort (map (λ pattern. pattern.now) patterns.now)) }
+{
+    for pattern in patterns {
+        if pattern.len() > BYTE_LIMIT {
+            return false;
+        }
+    }
+    true
+}
+
+/// What the matches of the command `find` ask for.
+fn find_request<'a>(alloc: Global, matches: &ArgMatches<'a>) -> Result<Request<'a>, Stop<'a>>
+    ensures request { IfOk result (λ request. (words : List Text)
+        → Commands words (codes "find") (rows_of (found_of matches.now))
+        → Asks words request) }
+    ensures fault { IfErr result (λ stop. (words : List Text)
+        → Commands words (codes "find") (rows_of (found_of matches.now))
+        → IsWordFault words stop) }
+{
+    let patterns = patterns_of(alloc, matches)?;
+    let whole = is_given(matches, WHOLE);
+    let hypotheses = is_given(matches, HYPOTHESES);
+    let names = values_of(alloc, matches, FILES)?;
+    if !are_short(&patterns) {
+        return Err(Stop::Usage(format!(in alloc;
+            "mm: a pattern has more than {BYTE_LIMIT} bytes\nUsage: {FIND_USE}\n"
+        )?));
+    }
+    Ok(Request::Find(AskedPatterns {
+        patterns,
+        whole,
+        hypotheses,
+        names,
+    }))
 }
 
 /// Which flags of `minimize` are given.
@@ -408,27 +587,6 @@ fn minimize_request<'a>(alloc: Global, matches: &ArgMatches<'a>) -> Result<Reque
         question: Question::Minimized,
     };
     Ok(Request::Run { command, names })
-}
-
-/// What the matches of a command that asks this question about the statement with a label ask for.
-fn label_request<'a>(
-    alloc: Global,
-    matches: &ArgMatches<'a>,
-    question: Question<'a>,
-) -> Result<Request<'a>, AllocError>
-    ensures { IfOk result (λ request. (words : List Text) (name : Text)
-        → Commands words name (rows_of (found_of matches.now))
-        → ((label : Text) (names : List Text) → AsksQuestion name words label names
-        → AsksAbout words label question.entry names)
-        → Asks words request) }
-{
-    Ok(Request::Run {
-        command: mm_check::Command::About {
-            label: asked_word(matches, LABEL).as_bytes(),
-            question,
-        },
-        names: values_of(alloc, matches, FILES)?,
-    })
 }
 
 /// What the matches of the command `users` ask for.
@@ -641,7 +799,10 @@ fn request_of_matches<'a>(
         return Ok(users_request(alloc, users)?);
     }
     if let Some(statement) = matches.subcommand_matches(STATEMENT) {
-        return Ok(label_request(alloc, statement, Question::Statement)?);
+        return statement_request(alloc, statement);
+    }
+    if let Some(find) = matches.subcommand_matches(FIND) {
+        return find_request(alloc, find);
     }
     if let Some(show) = matches.subcommand_matches(SHOW) {
         return show_request(alloc, show);

@@ -24,9 +24,9 @@ pub use reply::{
     push_labels, push_refusal, push_refusals, refusal_status, refused_text, text_status,
     verdict_reply,
 };
-pub use reread::{has_label, proof_of};
+pub use reread::has_label;
 pub use taking::{take, take_next};
-pub use text::{handed_tokens, is_space, placed_tokens, proof_tokens, tokens_of};
+pub use text::{handed_tokens, is_space, proof_tokens, tokens_of};
 pub use theorem::{Theorem, read_theorem};
 pub use theorems::Rereading;
 pub use verdict::{beginning, check, check_with, conclude, judge_files, load, make_room, next};

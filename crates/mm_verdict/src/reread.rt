@@ -2,19 +2,17 @@
 
 ghost use Rattle.std.specs.Prelude.{◌≡◌, ◌↔◌, List, map, None, OnOk, IfOk, IfErr, IsTrue};
 ghost use Rattle.mm_base.specs.Statement.{PlainStatement, plain_statement, HasForm};
-ghost use Rattle.mm_base.specs.Token.{plain_token};
 ghost use Rattle.mm_text.specs.Files.{plain_file};
 ghost use Rattle.mm_text.specs.Reading.{Reads};
-ghost use Rattle.mm_code.specs.Words.{texts_of};
 ghost use Rattle.mm_frame.specs.Sentence.{sentence_in, IsLabelled};
 ghost use Rattle.mm_rules.specs.declared.ask.AskFault.TheVariants.{Memory};
-ghost use Rattle.mm_rules.specs.Verdict.{CanBeRead, proof_of};
+ghost use Rattle.mm_rules.specs.Verdict.{CanBeRead};
 ghost use Rattle.mm_rules.specs.Shown.{Stands};
 
-use mm_base::{File, Seed, Statement, Token};
+use mm_base::{File, Seed, Statement};
 use mm_rules::AskFault;
 use mm_text::Statements;
-use std::alloc::{AllocError, Global};
+use std::alloc::Global;
 
 /// Whether a statement has a label.
 pub fn has_label(statement: &Statement, label: &[u8]) -> bool
@@ -75,41 +73,4 @@ pub fn reread<'a>(
             Err(fault)
         }
     }
-}
-
-/// Reads the texts of tokens, in place of what the list held.
-#[tactic(auto, using(std::proofs::lemmas::List::take_all, mm_rules::proofs::Judgements::JudgedProofs::texts_of))]
-pub(crate) fn read_texts<'a>(
-    texts: &mut Vec<&'a [u8]>,
-    tokens: &[Token<'a>],
-) -> Result<(), AllocError>
-    ensures { OnOk result (map (λ t. t.now) texts.new.items
-        ≡ texts_of (map plain_token tokens.now)) }
-{
-    texts.clear();
-    for token in tokens {
-        texts.push(token.text)?;
-    }
-    Ok(())
-}
-
-/// Reads the texts of the tokens of a statement's proof, in place of what the list held.
-pub(crate) fn read_proof<'a>(
-    tokens: &mut Vec<&'a [u8]>,
-    statement: &Statement<'a>,
-) -> Result<(), AllocError>
-    ensures { OnOk result (map (λ t. t.now) tokens.new.items
-        ≡ proof_of (plain_statement statement.now)) }
-{
-    read_texts(tokens, &statement.proof)
-}
-
-/// The texts of the tokens of a statement's proof.
-pub fn proof_of<'a>(alloc: Global, statement: &Statement<'a>) -> Result<Vec<&'a [u8]>, AllocError>
-    ensures { IfOk result (λ v. map (λ t. t.now) v.items
-        ≡ proof_of (plain_statement statement.now)) }
-{
-    let mut tokens = Vec::with_capacity(alloc, statement.proof.len())?;
-    read_proof(&mut tokens, statement)?;
-    Ok(tokens)
 }

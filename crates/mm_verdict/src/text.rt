@@ -7,16 +7,15 @@ ghost use Rattle.mm_base.specs.Token.{is_printable, is_space as is_white_space, 
 ghost use Rattle.mm_base.specs.Token.{tokens_from};
 ghost use Rattle.mm_base.specs.MostBytes.{most_bytes};
 ghost use Rattle.mm_code.specs.Layout.{texts};
-ghost use Rattle.mm_code.specs.Words.{texts_of, tokens_in, LacksWhiteSpace};
-ghost use Rattle.mm_proof.specs.Tokens.{is_incomplete};
+ghost use Rattle.mm_code.specs.Words.{tokens_in, LacksWhiteSpace};
+ghost use Rattle.mm_step.specs.Plain.{token_texts};
 ghost use Rattle.mm_rules.specs.Compared.{are_printable, hold_dollar, IsProofText};
 ghost use Rattle.mm_verdict.specs.Alone.{HasProofTokens};
 ghost use Rattle.mm_verdict.specs.Mirror.Comparisons.{IsIllegal};
 ghost use Rattle.mm_verdict.specs.Mirror.Reached.{HasNoTokens};
 
-use crate::reread::read_texts;
 use mm_base::Token;
-use mm_proof::is_unknown;
+use mm_proof::{fill_texts, is_incomplete};
 use mm_rules::{AskFault, AskRule, Rule};
 use mm_text::{BYTE_LIMIT, LoadRule, TextRule};
 use std::alloc::{AllocError, Global};
@@ -45,12 +44,13 @@ fn word_len(text: &[u8]) -> usize
 
 /// The tokens of a text, its longest runs of bytes that aren't white space, each with the position
 /// of its first byte.
-pub fn placed_tokens<'a>(alloc: Global, text: &'a [u8]) -> Result<Vec<Token<'a>>, AllocError>
+fn placed_tokens<'a>(alloc: Global, text: &'a [u8]) -> Result<Vec<Token<'a>>, AllocError>
     requires { length text.now ≤ most_bytes }
-    ensures tokens { IfOk result (λ tokens. map plain_token tokens.items
+    ensures places { IfOk result (λ tokens. map plain_token tokens.items
         ≡ tokens_from 0 0 text.now) }
-    ensures room { IfOk result (λ tokens.
-        sum_by length (texts_of (map plain_token tokens.items)) ≤ length text.now) }
+    ensures tokens { IfOk result (λ tokens. token_texts tokens.items ≡ tokens_in text.now) }
+    ensures room { IfOk result (λ tokens. sum_by length (token_texts tokens.items)
+        ≤ length text.now) }
 {
     let mut tokens = Vec::new(alloc);
     let mut rest = text;
@@ -80,7 +80,7 @@ pub fn tokens_of<'a>(alloc: Global, text: &'a [u8]) -> Result<Vec<&'a [u8]>, All
 {
     let placed = placed_tokens(alloc, text)?;
     let mut tokens = Vec::with_capacity(alloc, placed.len())?;
-    read_texts(&mut tokens, &placed)?;
+    fill_texts(&mut tokens, &placed)?;
     Ok(tokens)
 }
 
@@ -93,11 +93,11 @@ fn is_printable(token: &[u8]) -> bool
 
 /// Whether each byte of the tokens is one that a token may hold.
 #[tactic(auto, using(crate::proofs::Questions::TestedTokens::all_fail))]
-fn all_printable(tokens: &[&[u8]]) -> bool
-    ensures { result ≡ are_printable (texts tokens.now) }
+fn all_printable(tokens: &[Token]) -> bool
+    ensures { result ≡ are_printable (token_texts tokens.now) }
 {
     for token in tokens {
-        if !is_printable(token) {
+        if !is_printable(token.text) {
             return false;
         }
     }
@@ -113,24 +113,11 @@ fn has_dollar(token: &[u8]) -> bool
 
 /// Whether some token holds a `$`.
 #[tactic(auto, using(mm_base::proofs::Lists::any_found))]
-fn any_dollar(tokens: &[&[u8]]) -> bool
-    ensures { result ≡ hold_dollar (texts tokens.now) }
+fn any_dollar(tokens: &[Token]) -> bool
+    ensures { result ≡ hold_dollar (token_texts tokens.now) }
 {
     for token in tokens {
-        if has_dollar(token) {
-            return true;
-        }
-    }
-    false
-}
-
-/// Whether some token holds a `?`.
-#[tactic(auto, using(mm_base::proofs::Lists::any_found))]
-fn any_question(tokens: &[&[u8]]) -> bool
-    ensures { result ≡ is_incomplete (texts tokens.now) }
-{
-    for token in tokens {
-        if is_unknown(token) {
+        if has_dollar(token.text) {
             return true;
         }
     }
@@ -144,17 +131,21 @@ fn broken<T>(rule: Rule) -> Result<T, AskFault>
     Err(AskFault::Text { rule, step: 0 })
 }
 
-/// The tokens of a text, where they may stand in a proof, with unknown steps or without.
-pub fn handed_tokens<'a>(alloc: Global, text: &'a [u8]) -> Result<Vec<&'a [u8]>, AskFault>
-    ensures tokens { IfOk result (λ tokens. texts tokens.items ≡ tokens_in text.now) }
-    ensures room { IfOk result (λ tokens. sum_by length (texts tokens.items) ≤ most_bytes) }
+/// The tokens of a text, each with the position of its first byte, where they may stand in a proof,
+/// with unknown steps or without.
+pub fn handed_tokens<'a>(alloc: Global, text: &'a [u8]) -> Result<Vec<Token<'a>>, AskFault>
+    ensures places { IfOk result (λ tokens. map plain_token tokens.items
+        ≡ tokens_from 0 0 text.now) }
+    ensures tokens { IfOk result (λ tokens. token_texts tokens.items ≡ tokens_in text.now) }
+    ensures room { IfOk result (λ tokens. sum_by length (token_texts tokens.items)
+        ≤ most_bytes) }
     ensures legal { IfOk result (λ tokens. HasProofTokens text.now) }
     ensures fault { IfErr result (HasNoTokens text.now) }
 {
     if text.len() > BYTE_LIMIT {
         return broken(Rule::Load(LoadRule::F3));
     }
-    let tokens = tokens_of(alloc, text)?;
+    let tokens = placed_tokens(alloc, text)?;
     if !all_printable(&tokens) {
         return broken(Rule::Text(TextRule::X1));
     }
@@ -165,14 +156,15 @@ pub fn handed_tokens<'a>(alloc: Global, text: &'a [u8]) -> Result<Vec<&'a [u8]>,
 }
 
 /// The tokens of a text, where they may stand in a proof with no unknown step.
-pub fn proof_tokens<'a>(alloc: Global, text: &'a [u8]) -> Result<Vec<&'a [u8]>, AskFault>
-    ensures tokens { IfOk result (λ tokens. texts tokens.items ≡ tokens_in text.now) }
-    ensures room { IfOk result (λ tokens. sum_by length (texts tokens.items) ≤ most_bytes) }
+pub fn proof_tokens<'a>(alloc: Global, text: &'a [u8]) -> Result<Vec<Token<'a>>, AskFault>
+    ensures tokens { IfOk result (λ tokens. token_texts tokens.items ≡ tokens_in text.now) }
+    ensures room { IfOk result (λ tokens. sum_by length (token_texts tokens.items)
+        ≤ most_bytes) }
     ensures legal { IfOk result (λ tokens. IsProofText text.now) }
     ensures fault { IfErr result (IsIllegal text.now) }
 {
     let tokens = handed_tokens(alloc, text)?;
-    if any_question(&tokens) {
+    if is_incomplete(&tokens) {
         return broken(Rule::Ask(AskRule::A3));
     }
     Ok(tokens)

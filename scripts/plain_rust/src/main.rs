@@ -12,6 +12,7 @@ mod mm_render;
 mod mm_facts;
 mod mm_explain;
 mod mm_axioms;
+mod mm_find;
 mod mm_save;
 mod mm_minimize;
 mod mm_check;

@@ -21,7 +21,7 @@ use Rattle.mm_step.specs.Moves.{Move, name, again, mark}
 use Rattle.mm_step.specs.Proof.{IsWithin, Passed}
 use Rattle.mm_step.specs.Steps.{IsNumberedMove, AreNumberedMoves}
 use Rattle.mm_proof.specs.Verified.{OfMoves}
-use Rattle.mm_distinct.specs.Lacking.{with_pairs, StopsElsewhere, PassElsewhere, AskApart, AreLacking}
+use Rattle.mm_distinct.specs.Lacking.{with_pairs, StopsElsewhere, PassElsewhere, AskDisjoint, AreLacking}
 use Rattle.mm_step.specs.Mirror.CodeVerify.{name_at, names_at, all_names_at, AreDeclaredSymbols}
 use Rattle.mm_step.specs.Mirror.CodeVerify.{AreStackEntries}
 use Rattle.mm_proof.specs.Asked.{IsUnstated}
@@ -49,8 +49,8 @@ use Rattle.mm_distinct.proofs.LackingPairs.PastedPairs.{lacking_meant}
 module _ (Fits : Expression → Type 0) (before : List Sentence) (moves : List (Move (List ℕ)))
   where
     -- what is asked of two is asked of them in the other order
-    pub asked_other : (u v : Symbol) → AskApart Fits before moves u v
-        → AskApart Fits before moves v u
+    pub asked_other : (u v : Symbol) → AskDisjoint Fits before moves u v
+        → AskDisjoint Fits before moves v u
     asked_other u v a =
         let (m, x, y, e, f, pair, at_x, at_y, (in_e, in_f)) = a.asked in
         record {
@@ -77,8 +77,8 @@ module _ (Fits : Expression → Type 0) (before : List Sentence) (moves : List (
 
 module _ (Fits : Expression → Type 0) (before : List Sentence) (moves : List (Move (List ℕ)))
     (x : Move (List ℕ)) where
-  asked_longer : (u v : Symbol) → AskApart Fits before moves u v
-      → AskApart Fits before (moves ++ x ∷ []) u v
+  asked_longer : (u v : Symbol) → AskDisjoint Fits before moves u v
+      → AskDisjoint Fits before (moves ++ x ∷ []) u v
   asked_longer u v a = record {
     earlier = a.earlier;
     label = a.label;
@@ -140,7 +140,7 @@ module _ (site : ProofSite) (prefix : List (Move ℕ)) where
       asked = λ p has pairs cover moves numbered.
           let h = zip_front (IsNumberedMove site.statements) prefix x moves numbered in
           let before : List Sentence = with_pairs (take site.index site.statements) pairs in
-          subst (λ l. AskApart (IsWithin site.limit) before l (name_at site.statements p.0)
+          subst (λ l. AskDisjoint (IsWithin site.limit) before l (name_at site.statements p.0)
           (name_at site.statements p.1)) (sym h.2)
           (asked_longer (IsWithin site.limit) before h.0 h.1 _ _ (found.asked p has pairs cover h.0
           h.3));
@@ -224,7 +224,7 @@ module _ (site : ProofSite) (prefix : List (Move ℕ)) where
             let n = h.4 in
             elim (does.asked p has) [
               | inl old ↦
-                  subst (λ l. AskApart (IsWithin site.limit) (with_pairs before pairs) l
+                  subst (λ l. AskDisjoint (IsWithin site.limit) (with_pairs before pairs) l
                   (name_at st p.0) (name_at st p.1)) (sym h.2)
                   (asked_longer (IsWithin site.limit) (with_pairs before pairs) h.0 h.1 _ _
                   (found.asked p old pairs cover' h.0 h.3))
@@ -516,7 +516,7 @@ module _ (one : OneNumber) (site : ProofSite) (moves : List (Move (List ℕ)))
   abbrev IsAsked : ℕ × ℕ → Type 0
   IsAsked p =
       IsLackingPair site.statements site.index p
-      × AskApart (IsWithin site.limit) (with_pairs before names) moves
+      × AskDisjoint (IsWithin site.limit) (with_pairs before names) moves
       (name_at site.statements p.0) (name_at site.statements p.1)
 
   asked_found : (p : ℕ × ℕ) → Contains found p → IsAsked p × IsAsked (p.1, p.0)
@@ -539,12 +539,12 @@ module _ (one : OneNumber) (site : ProofSite) (moves : List (Move (List ℕ)))
   asked_put p c = found_put found pairs ordered IsAsked asked_found p c
 
   needed : (p : Symbol × Symbol) → Contains names p → IsUnstated before p
-      × AskApart (IsWithin site.limit) (with_pairs before names) moves p.0 p.1
+      × AskDisjoint (IsWithin site.limit) (with_pairs before names) moves p.0 p.1
   needed p has =
       let q = mapped_contains (names_of site.statements) pairs p has in
       let h = asked_put q.0 q.1 in
       subst (λ (r : Symbol × Symbol). IsUnstated before r
-      × AskApart (IsWithin site.limit) (with_pairs before names) moves r.0 r.1) q.2 (
+      × AskDisjoint (IsWithin site.limit) (with_pairs before names) moves r.0 r.1) q.2 (
         unstated_named one site.statements site.index q.0.0 q.0.1 h.0.missing h.0.first h.0.second
             (ordered.in_order.turned q.0 q.1),
         h.1,

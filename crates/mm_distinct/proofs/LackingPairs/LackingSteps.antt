@@ -15,7 +15,7 @@ use Rattle.mm_frame.specs.Rules.{AllMeant}
 use Rattle.mm_frame.specs.Numbers.{symbols_of, IsNumberOf, AreNumbers}
 use Rattle.mm_frame.specs.Pieces.{variables_of}
 use Rattle.mm_frame.specs.Laws.{OneNumber}
-use Rattle.mm_frame.specs.declared.scheme.Scheme.{Scheme}
+use Rattle.mm_frame.specs.declared.signature.Signature.{Signature}
 use Rattle.mm_frame.proofs.Rules.ObeyedRules.{allmeant_prefix, some_later}
 use Rattle.mm_frame.proofs.Rules.DecidedStatements.{distinct_dec, variable_dec}
 use Rattle.mm_frame.proofs.Frames.FrameLaws.{distinct_other}
@@ -37,7 +37,7 @@ use Rattle.mm_step.specs.Mirror.CodeVerify.{IsSymbol}
 use Rattle.mm_step.specs.Mirror.CodeVerify.{EachEntry, EachPairValues, IsRightCode}
 use Rattle.mm_step.specs.Mirror.CodeVerify.{IsEqual, AreVariablesOf, Replaces}
 use Rattle.mm_step.specs.Mirror.CodeRun.{StopsAt}
-use Rattle.mm_step.specs.Mirror.CodeApply.{IsAppliedAssertion, IsEarlierScheme}
+use Rattle.mm_step.specs.Mirror.CodeApply.{IsAppliedAssertion, IsEarlierSignature}
 use Rattle.mm_step.specs.Mirror.CodeAsked.{IsMissingPair}
 use Rattle.mm_distinct.specs.Mirror.CodeLacking.{AddsLacking, Cover, CarriesWith, StopsWith, StepsWith}
 use Rattle.mm_distinct.specs.Mirror.CodeLacking.{IsLackingPair, AsksFor}
@@ -135,22 +135,22 @@ module _ (limit : ℕ) (st : List Sentence) (index id : ℕ) (stack : List (List
 
 -- ==== an assertion is applied
 
-module _ (limit : ℕ) (one : OneNumber) (st : List Sentence) (index id : ℕ) (scheme : Scheme)
-    (is : IsEarlierScheme st index id scheme) (all : AllMeant st) (stack : List (List ℕ)) (base : ℕ)
-    (count : base + length scheme.hypotheses.now ≡ length stack)
+module _ (limit : ℕ) (one : OneNumber) (st : List Sentence) (index id : ℕ) (signature : Signature)
+    (is : IsEarlierSignature st index id signature) (all : AllMeant st) (stack : List (List ℕ)) (base : ℕ)
+    (count : base + length signature.hypotheses.now ≡ length stack)
     (entries : AreStackEntries st (take index st) stack)
     (codes : EachEntry is.hypotheses.hypotheses (all_names_at st (drop base stack)) IsRightCode)
     (equal : EachEntry is.hypotheses.hypotheses (all_names_at st (drop base stack))
     (IsEqual (replaced_by is.hypotheses.hypotheses (all_names_at st (drop base stack)))))
-    (share : EachPairValues (value_of (variables_of scheme.hypotheses.now) (drop base stack))
-    (pairs_in scheme.pairs.now)
+    (share : EachPairValues (value_of (variables_of signature.hypotheses.now) (drop base stack))
+    (pairs_in signature.pairs.now)
     (λ e f. ShareNoVariable (take index st) (names_at st e) (names_at st f)))
     (old new : List (ℕ × ℕ))
-    (adds : AddsLacking st index (value_of (variables_of scheme.hypotheses.now) (drop base stack))
-    (pairs_in scheme.pairs.now) old new) where
-  called : IsAppliedAssertion st index id is.at (label_ids scheme.hypotheses.now)
+    (adds : AddsLacking st index (value_of (variables_of signature.hypotheses.now) (drop base stack))
+    (pairs_in signature.pairs.now) old new) where
+  called : IsAppliedAssertion st index id is.at (label_ids signature.hypotheses.now)
       is.hypotheses.hypotheses
-  called = called_of st index id scheme is
+  called = called_of st index id signature is
 
   its : called.s ≡ is.s
   its = same_Some called.s is.s (sym called.numbered.there ∙ is.numbered.there)
@@ -160,29 +160,29 @@ module _ (limit : ℕ) (one : OneNumber) (st : List Sentence) (index id : ℕ) (
     arith,
     length-drop base stack,
     count,
-    as_many st scheme.hypotheses.now
+    as_many st signature.hypotheses.now
         is.hypotheses.hypotheses is.hypotheses.numbered,
   )
 
-  typed : AreVariablesOf st (variables_of scheme.hypotheses.now) is.hypotheses.hypotheses
-  typed = typed_variables st scheme.hypotheses.now is.hypotheses.hypotheses is.typed
+  typed : AreVariablesOf st (variables_of signature.hypotheses.now) is.hypotheses.hypotheses
+  typed = typed_variables st signature.hypotheses.now is.hypotheses.hypotheses is.typed
       is.hypotheses.numbered
 
   replaces : Replaces st (replaced_by is.hypotheses.hypotheses (all_names_at st (drop base stack)))
-      (variables_of scheme.hypotheses.now) (drop base stack)
-  replaces = replaces_by one st (variables_of scheme.hypotheses.now) is.hypotheses.hypotheses
+      (variables_of signature.hypotheses.now) (drop base stack)
+  replaces = replaces_by one st (variables_of signature.hypotheses.now) is.hypotheses.hypotheses
       (drop base stack) typed
 
   abbrev meets : (label : List ℕ) → IsNumberedMove st (name id) (name label)
       → MeetsHypotheses (take index st) (all_names_at st stack) label
   meets label move =
-      met st index id is.at (label_ids scheme.hypotheses.now) is.hypotheses.hypotheses label stack
+      met st index id is.at (label_ids signature.hypotheses.now) is.hypotheses.hypotheses label stack
       base all called move paired
 
   -- with a `$d` for each missing pair, what replaces the members of each pair stays apart
   apart_values : (pairs : List (Symbol × Symbol)) → Cover st new pairs
-      → EachPairValues (value_of (variables_of scheme.hypotheses.now) (drop base stack))
-      (pairs_in scheme.pairs.now)
+      → EachPairValues (value_of (variables_of signature.hypotheses.now) (drop base stack))
+      (pairs_in signature.pairs.now)
       (λ e f. AreDistinct (with_pairs (take index st) pairs) (names_at st e) (names_at st f))
   apart_values pairs cover k p there e f at_x at_y u v var_u var_v in_e in_f =
       let before : List Sentence = take index st in
@@ -191,9 +191,9 @@ module _ (limit : ℕ) (one : OneNumber) (st : List Sentence) (index id : ℕ) (
       let j = has_named st f v in_f in
       let m = get_or e i.0 0 in
       let n = get_or f j.0 0 in
-      let se = value_symbols st before (variables_of scheme.hypotheses.now) (drop base stack) p.0 e
+      let se = value_symbols st before (variables_of signature.hypotheses.now) (drop base stack) p.0 e
       below at_x in
-      let sf = value_symbols st before (variables_of scheme.hypotheses.now) (drop base stack) p.1 f
+      let sf = value_symbols st before (variables_of signature.hypotheses.now) (drop base stack) p.1 f
       below at_y in
       let number_u : IsNumberOf st u m = subst (λ x. IsNumberOf st x m) i.2
       (number_of_name st m (symbol_at st before e i.0 se i.1).below) in
@@ -226,9 +226,9 @@ module _ (limit : ℕ) (one : OneNumber) (st : List Sentence) (index id : ℕ) (
   module _ (label : List ℕ) (move : IsNumberedMove st (name id) (name label)) where
     shared : EachPair (take index st) (all_names_at st stack) label (meets label move)
         (ShareNoVariable (take index st))
-    shared = each_pair one st index id is.at (label_ids scheme.hypotheses.now)
+    shared = each_pair one st index id is.at (label_ids signature.hypotheses.now)
         is.hypotheses.hypotheses label stack base
-        (variables_of scheme.hypotheses.now) (pairs_in scheme.pairs.now)
+        (variables_of signature.hypotheses.now) (pairs_in signature.pairs.now)
         (ShareNoVariable (take index st))
         (share_turned (take index st)) all called move paired typed is.pairs share
 
@@ -244,9 +244,9 @@ module _ (limit : ℕ) (one : OneNumber) (st : List Sentence) (index id : ℕ) (
       (move : IsNumberedMove st (name id) (name label)) where
     apart : EachPair (take index st) (all_names_at st stack) label (meets label move)
         (AreDistinct (with_pairs (take index st) pairs))
-    apart = each_pair one st index id is.at (label_ids scheme.hypotheses.now)
+    apart = each_pair one st index id is.at (label_ids signature.hypotheses.now)
         is.hypotheses.hypotheses label stack base
-        (variables_of scheme.hypotheses.now) (pairs_in scheme.pairs.now)
+        (variables_of signature.hypotheses.now) (pairs_in signature.pairs.now)
         (AreDistinct (with_pairs (take index st) pairs))
         (apart_turned (with_pairs (take index st) pairs)) all called move paired typed is.pairs
         (apart_values pairs cover)
@@ -279,29 +279,29 @@ module _ (limit : ℕ) (one : OneNumber) (st : List Sentence) (index id : ℕ) (
         (breaks_fall (take index st) pairs (all_names_at st stack) label (IsWithin limit) other b)
 
   -- what the assertion says of the entries
-  said : names_at st (all_said_by (drop base stack) scheme.conclusion.now)
+  said : names_at st (all_said_by (drop base stack) signature.conclusion.now)
       ≡ instance_of (replaced_by is.hypotheses.hypotheses (all_names_at st (drop base stack)))
       called.s.symbols
   said =
       let pattern = is.concluded.0 in
-      let size : length (variables_of scheme.hypotheses.now) ≡ length (drop base stack) =
-      omega (arith, length-drop base stack, count, variables_counted scheme.hypotheses.now) in
+      let size : length (variables_of signature.hypotheses.now) ≡ length (drop base stack) =
+      omega (arith, length-drop base stack, count, variables_counted signature.hypotheses.now) in
       let numbers = subst (λ (s : Sentence). AreNumbers st pattern s.symbols) (sym its)
       is.concluded.1 in
-      ap (names_at st) (pattern_says (variables_of scheme.hypotheses.now) (drop base stack) pattern
-      scheme.conclusion.now size is.concluded.2)
-      ∙ made_named one st is.hypotheses.hypotheses (variables_of scheme.hypotheses.now)
+      ap (names_at st) (pattern_says (variables_of signature.hypotheses.now) (drop base stack) pattern
+      signature.conclusion.now size is.concluded.2)
+      ∙ made_named one st is.hypotheses.hypotheses (variables_of signature.hypotheses.now)
       (drop base stack) pattern called.s.symbols typed numbers
 
   -- it is put on the stack
-  carries_with : length (all_said_by (drop base stack) scheme.conclusion.now) ≤ limit
+  carries_with : length (all_said_by (drop base stack) signature.conclusion.now) ≤ limit
       → CarriesWith limit st index id new stack (take base stack ++ all_said_by (drop base stack)
-      scheme.conclusion.now ∷ [])
+      signature.conclusion.now ∷ [])
   carries_with within pairs cover label moves kept move passed =
       let before : List Sentence = take index st in
       let names = all_names_at st stack in
       let m = meets label move in
-      let whole = all_said_by (drop base stack) scheme.conclusion.now in
+      let whole = all_said_by (drop base stack) signature.conclusion.now in
       let size : length (names_at st whole) ≡ length whole = length-map whole (name_at st) in
       let fits : IsWithin limit (names_at st whole) = omega (arith, within, size) in
       let e = instance_of (replaced_by is.hypotheses.hypotheses (all_names_at st (drop base stack)))
@@ -319,10 +319,10 @@ module _ (limit : ℕ) (one : OneNumber) (st : List Sentence) (index id : ℕ) (
       ∙ ap (λ x. all_names_at st (take base stack) ++ x ∷ []) said)) next
 
   -- it is over the limit
-  over_with : limit < length (all_said_by (drop base stack) scheme.conclusion.now)
+  over_with : limit < length (all_said_by (drop base stack) signature.conclusion.now)
       → StopsWith limit st index id new stack
   over_with over pairs cover label kept move =
-      let whole = all_said_by (drop base stack) scheme.conclusion.now in
+      let whole = all_said_by (drop base stack) signature.conclusion.now in
       let size : length (names_at st whole) ≡ length whole = length-map whole (name_at st) in (
         L1,
         λ e. absurd cc,
@@ -343,14 +343,14 @@ module _ (limit : ℕ) (one : OneNumber) (st : List Sentence) (index id : ℕ) (
     | inr (missing, (k, q, there, (e, f, at_x, at_y, (in_e, in_f)))) ↦
         let before : List Sentence = take index st in
         let below = entries_drop st before base stack entries in
-        let vs = variables_of scheme.hypotheses.now in
+        let vs = variables_of signature.hypotheses.now in
         let es = drop base stack in
         let se = value_symbols st before vs es q.0 e below at_x in
         let sf = value_symbols st before vs es q.1 f below at_y in
         let i = at_from_contains e p.0 in_e in
         let j = at_from_contains f p.1 in_f in
-        let found = pair_found st index id is.at (label_ids scheme.hypotheses.now)
-        is.hypotheses.hypotheses (pairs_in scheme.pairs.now)
+        let found = pair_found st index id is.at (label_ids signature.hypotheses.now)
+        is.hypotheses.hypotheses (pairs_in signature.pairs.now)
         called is.pairs k q there in
         let σ = replaced_by is.hypotheses.hypotheses (all_names_at st es) in
         inr (
@@ -380,7 +380,7 @@ module _ (limit : ℕ) (one : OneNumber) (st : List Sentence) (index id : ℕ) (
 
   -- the step by the assertion, by what the store says
   pub concludes_with : (made : Bool) (left : List (List ℕ))
-      → (let whole = all_said_by (drop base stack) scheme.conclusion.now in MatchBool made
+      → (let whole = all_said_by (drop base stack) signature.conclusion.now in MatchBool made
       ((length whole ≤ limit) × (left ≡ take base stack ++ whole ∷ []))
       ((limit < length whole) × (left ≡ stack)))
       → StepsWith limit st index id old new stack left made
@@ -390,12 +390,12 @@ module _ (limit : ℕ) (one : OneNumber) (st : List Sentence) (index id : ℕ) (
     outcome = subst (λ l. CarriesWith limit st index id new stack l) (sym is_left)
         (carries_with within);
     entries = subst (AreStackEntries st (take index st)) (sym is_left)
-        (replaced_entries st index is.at is.s stack base (variables_of scheme.hypotheses.now)
+        (replaced_entries st index is.at is.s stack base (variables_of signature.hypotheses.now)
         is.concluded.0 _ all
         is.numbered.there is.before (inr (inr (inr is.kind))) is.concluded.1
-        (pattern_says (variables_of scheme.hypotheses.now) (drop base stack) is.concluded.0
-        scheme.conclusion.now
-        (omega (arith, length-drop base stack, count, variables_counted scheme.hypotheses.now))
+        (pattern_says (variables_of signature.hypotheses.now) (drop base stack) is.concluded.0
+        signature.conclusion.now
+        (omega (arith, length-drop base stack, count, variables_counted signature.hypotheses.now))
         is.concluded.2) entries);
   }
   concludes_with false left (over, is_left) = record {

@@ -26,7 +26,7 @@ use Rattle.mm_step.specs.Substitution.{Symbol, IsOn, instance_of}
 use Rattle.mm_step.specs.Tree.{Trees, none, tree, Names, DeriveAll}
 use Rattle.mm_step.specs.Moves.{Move}
 use Rattle.mm_step.specs.Proof.{MeetsHypotheses}
-use Rattle.mm_distinct.specs.Lacking.{distinct_sentence, with_pairs, AskApart}
+use Rattle.mm_distinct.specs.Lacking.{distinct_sentence, with_pairs, AskDisjoint}
 use Rattle.mm_step.proofs.ProofSteps.OneStep.{typing_among}
 use Rattle.mm_proof.proofs.ProofNumbers.DeclaredSymbols.{in_instance, typing_has}
 use Rattle.mm_distinct.proofs.LackingPairs.WithPairs.{added_cases, same_prefix, names_fall}
@@ -166,7 +166,7 @@ module _ (before : List Sentence) (all : AllMeant before) where
   -- the pair that a step asks for
   asked_active : (Fits : List (List ℕ) → Type 0) (pairs : List (Symbol × Symbol))
       (moves : List (Move (List ℕ))) (u v : Symbol)
-      → IsVariable before u → IsVariable before v → AskApart Fits (with_pairs before pairs) moves u
+      → IsVariable before u → IsVariable before v → AskDisjoint Fits (with_pairs before pairs) moves u
       v
       → IsActiveVariable before u × IsActiveVariable before v
   asked_active Fits pairs moves u v is_u is_v a =
@@ -259,7 +259,7 @@ pub lacking_meant : (before : List Sentence) → AllMeant before
     → (Fits : List (List ℕ) → Type 0) (moves : List (Move (List ℕ)))
     (pairs : List (Symbol × Symbol))
     → ((p : Symbol × Symbol) → Contains pairs p → IsVariable before p.0 × IsVariable before p.1
-    × (p.0 ≡ p.1 → ⊥) × AskApart Fits (with_pairs before pairs) moves p.0 p.1)
+    × (p.0 ≡ p.1 → ⊥) × AskDisjoint Fits (with_pairs before pairs) moves p.0 p.1)
     → AllMeant (with_pairs before pairs)
 lacking_meant before all Fits moves pairs needed = meant_added pairs before all (λ p c.
     let n = needed p c in

@@ -11,7 +11,7 @@ use Rattle.mm_step.specs.Moves.{Move, name}
 use Rattle.mm_step.specs.Proof.{IsWithin, Passed, FirstAtMove, SomeReplacedPair, BreaksStep}
 use Rattle.mm_step.specs.Proof.{proof_rank}
 use Rattle.mm_step.specs.Steps.{IsNumberedMove, AreNumberedMoves}
-use Rattle.mm_distinct.specs.Lacking.{with_pairs, PassElsewhere, AskApart}
+use Rattle.mm_distinct.specs.Lacking.{with_pairs, PassElsewhere, AskDisjoint}
 use Rattle.mm_step.specs.Mirror.CodeVerify.{name_at, all_names_at, AreStackEntries}
 use Rattle.mm_step.specs.Mirror.CodeVerify.{EachPairValues, SomePairValues}
 use Rattle.mm_step.specs.Mirror.CodeAsked.{IsMissingPair, HasEither, number_pairs}
@@ -136,7 +136,7 @@ pub record AreFound (site : ProofSite) (lacking : List (ℕ × ℕ)) (prefix : L
         (p : ℕ × ℕ) → Contains lacking p → (pairs : List (Symbol × Symbol))
         → Cover site.statements lacking pairs → (moves : List (Move (List ℕ)))
         → AreNumberedMoves site.statements prefix moves
-        → AskApart (IsWithin site.limit) (with_pairs (take site.index site.statements) pairs) moves
+        → AskDisjoint (IsWithin site.limit) (with_pairs (take site.index site.statements) pairs) moves
         (name_at site.statements p.0) (name_at site.statements p.1)
 
 -- The seeker has gone over the moves since the first state, in the same store and with the same

@@ -7,7 +7,7 @@ use Rattle.mm_step.specs.declared.fault.ProofFault.TheVariants as proof_faults
 use Rattle.mm_step.specs.declared.fault.ProofRule.{ProofRule}
 use Rattle.mm_step.specs.declared.profile.Profile.TheVariants.{Lenient}
 use Rattle.mm_proof.specs.Answer.{OnRule}
-use Rattle.mm_proof.specs.KnownPrefix.{known_prefix, Pass}
+use Rattle.mm_proof.specs.CheckedPrefix.{checked_prefix, Pass}
 use Rattle.mm_step.specs.Moves.{Move}
 use Rattle.mm_proof.specs.Parsed.{OfProof}
 use Rattle.mm_step.specs.Profiles.{limit_of}
@@ -39,7 +39,7 @@ pub tokens_fault : (st : List Sentence) (id : ℕ) (tokens : List (List ℕ)) (r
     → (¬ (IsIncomplete tokens) → OfProof st id (λ index s. (step ≡ 0)
     × IsTextFault Lenient (take index st) s tokens rule))
     → (IsIncomplete tokens → OfProof st id (λ index s. (step ≡ 0)
-    × IsTextFault Lenient (take index st) s (known_prefix tokens) rule))
+    × IsTextFault Lenient (take index st) s (checked_prefix tokens) rule))
     → (b : Bool) → is_incomplete tokens ≡ b
     → (step ≡ 0)
     × OfProof st id (λ index s. IsTokensFault Lenient (take index st) s tokens rule step)
@@ -56,7 +56,7 @@ SayJudged before s tokens moves = IsWhole before tokens × SayMoves before s tok
 
 -- the judged tokens, where it is known whether a step is unknown
 abbrev pub judged_where : Bool → List (List ℕ) → List (List ℕ)
-judged_where b tokens = cond b (known_prefix tokens) tokens
+judged_where b tokens = cond b (checked_prefix tokens) tokens
 
 module _ (before : List Sentence) (s : Sentence) (tokens : List (List ℕ))
     (moves : List (Move (List ℕ))) where

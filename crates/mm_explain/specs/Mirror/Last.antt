@@ -10,7 +10,7 @@ use Rattle.mm_rules.specs.declared.rule.Rule.{Rule}
 use Rattle.mm_rules.specs.declared.rule.Rule.TheVariants as rules
 use Rattle.mm_rules.specs.Verdict.{PlainRefusal, CanBeRead, text_refusal}
 use Rattle.mm_facts.specs.Explained.{Detail, details_text}
-use Rattle.mm_explain.specs.Mirror.Breaches.{IsStopped}
+use Rattle.mm_explain.specs.Mirror.SemanticErrors.{IsStopped}
 use Rattle.mm_explain.specs.TextFacts.{AreOrigins, files_up_to, unclosed_in}
 
 -- this is the refusal for the fault of the text

@@ -15,7 +15,7 @@ use Rattle.mm_explain.specs.declared.scope.Seeking.{Seeking}
 use Rattle.mm_explain.specs.declared.scope.Scope.TheVariants as scope
 use Rattle.mm_facts.specs.Explained.{Detail, details_text}
 use Rattle.mm_explain.specs.HypothesisPlaces.{ClosesBlock, IsHypothesisFact}
-use Rattle.mm_explain.specs.Mirror.Breaches.{Site}
+use Rattle.mm_explain.specs.Mirror.SemanticErrors.{Site}
 use Rattle.mm_rules.specs.Verdict.{CanBeRead, sentences}
 
 -- The `$p` with the number stands in the files behind so many statements, and these are what they

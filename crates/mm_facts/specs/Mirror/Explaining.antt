@@ -2,10 +2,11 @@
 -- private contracts alone.
 use Rattle.std.specs.Prelude.{◌≡◌, ◌≢◌, ◌<◌, ◌≤◌, ◌+◌, ℕ, [], ◌∷◌, ◌++◌, List, Bool, take, length}
 use Rattle.std.specs.Prelude.{slice_get}
-use Rattle.std.specs.Prelude.{Some, unwrap_or, map, drop}
+use Rattle.std.specs.Prelude.{Some, None, Option, unwrap_or, map, drop, filter, not, true, false}
 use Rattle.mm_frame.specs.Sentence.{Sentence}
 use Rattle.mm_frame.specs.Numbers.{AreNumbers, symbols_of}
 use Rattle.mm_frame.specs.declared.number.Sym.{Sym}
+use Rattle.mm_frame.specs.declared.hypothesis.Hypothesis.{Hypothesis}
 use Rattle.mm_step.specs.declared.fault.ProofRule.{ProofRule}
 use Rattle.mm_listing.specs.declared.halt.Halt.{Halt}
 use Rattle.mm_step.specs.Substitution.{Expression, Symbol, Substitution}
@@ -26,8 +27,9 @@ use Rattle.mm_step.specs.Profiles.{limit_of}
 use Rattle.mm_frame.specs.Form.{IsSound}
 use Rattle.mm_listing.specs.Halted.{HaltsProof}
 use Rattle.mm_facts.specs.Explained.{Detail, details_text, AreStepDetails, AreMoveDetails}
-use Rattle.mm_facts.specs.Explained.{judged_tokens, AreAsked, hypothesis_asks, AreApartDetails}
-use Rattle.mm_facts.specs.Explained.{ArePairDetails, ArePairsAsked, IsTokensFault}
+use Rattle.mm_facts.specs.Explained.{judged_tokens, AreAsked, hypothesis_asks, AreDisjointDetails}
+use Rattle.mm_facts.specs.Explained.{ArePairDetails, ArePairsAsked, IsTokensFault, is_unmet}
+use Rattle.mm_facts.specs.Explained.{AreAskedInTurn, AreTypesAsked}
 use Rattle.mm_facts.specs.declared.details.Cause.{Cause}
 use Rattle.mm_facts.specs.declared.details.Cause.TheVariants as cause
 use Rattle.std.specs.List.{AllZip, AllByRecursion, flat_map}
@@ -102,13 +104,13 @@ IsDeclaredIn statements id numbers =
     × (e : Expression) × AreNumbers statements numbers e × AreDeclared (take index statements) e
 
 -- In that proof the text of the facts of a mandatory pair, which these replace, was added.
-abbrev pub AddsApart : List Sentence → (id : ℕ) → ProofRule → Sym × Sym → (e f : List ℕ)
+abbrev pub AddsDisjoint : List Sentence → (id : ℕ) → ProofRule → Sym × Sym → (e f : List ℕ)
     → (old new : List ℕ) → Type 0
-AddsApart statements id rule variables e f old new = OfProof statements id (λ index s.
+AddsDisjoint statements id rule variables e f old new = OfProof statements id (λ index s.
     (x y : Expression) → AreNumbers statements e x → AreNumbers statements f y
     → AreDeclared (take index statements) x → AreDeclared (take index statements) y
     → (details : List Detail)
-    × AreApartDetails (take index statements) rule (name_at statements variables.0.0)
+    × AreDisjointDetails (take index statements) rule (name_at statements variables.0.0)
     (name_at statements variables.1.0) x y details
     × (new ≡ old ++ details_text details))
 
@@ -161,10 +163,10 @@ AddsPairs statements id rule entries pairs old new = OfProof statements id (λ i
     × (new ≡ old ++ details_text (flat_map (λ own. own) told)))
 
 -- what facts are told where moves stop: of the statements before, the statement, the stack, the
--- kept trees, the makers of the stack and the moves that are left
+-- kept trees, the origins of the stack and the moves that are left
 abbrev pub HaltFacts : Type 1
 HaltFacts =
-    (before : List Sentence) → Sentence → (stack kept : List Expression) → (makers : List ℕ)
+    (before : List Sentence) → Sentence → (stack kept : List Expression) → (origins : List ℕ)
     → (left : List (Move (List ℕ))) → List Detail → Type 0
 
 -- Wherever the moves of the `$p` with the number stop so, the text of such facts was added.
@@ -175,43 +177,90 @@ AddsAtHalt limit statements id halt Facts old new =
     → IsProofNumber statements id index s
     → (h : HaltsProof limit statements (take index statements) s prefix moves halt)
     → (details : List Detail)
-    × Facts (take index statements) s h.there.stack h.there.kept h.there.makers h.there.left details
+    × Facts (take index statements) s h.there.stack h.there.kept h.there.origins h.there.left details
     × (new ≡ old ++ details_text details)
 
 -- the facts of the step by a label that breaks the rule, behind that label
 abbrev pub StepFacts : (limit : ℕ) → ProofRule → HaltFacts
-StepFacts limit rule before s stack kept makers left details =
+StepFacts limit rule before s stack kept origins left details =
     (label : List ℕ) × (more : List (Move (List ℕ))) × (left ≡ name label ∷ more)
-    × AreStepDetails limit before stack makers label rule details
+    × AreStepDetails limit before stack origins label rule details
 
 -- and those with it
 abbrev pub LabelFacts : (limit : ℕ) → ProofRule → HaltFacts
-LabelFacts limit rule before s stack kept makers left details =
+LabelFacts limit rule before s stack kept origins left details =
     (label : List ℕ) × (more : List (Move (List ℕ))) × (left ≡ name label ∷ more)
-    × AreMoveDetails limit before stack kept makers (name label) rule details
+    × AreMoveDetails limit before stack kept origins (name label) rule details
 
--- what the hypotheses of the assertion ask
-abbrev pub AskedFacts : HaltFacts
-AskedFacts before s stack kept makers left details =
+-- whether the facts of a hypothesis are told, where those that aren't met are, or where the others
+-- are
+abbrev pub is_told : (unmet : Bool) → Detail → Bool
+is_told true detail = is_unmet detail
+is_told false detail = not (is_unmet detail)
+
+-- what the hypotheses of the assertion ask that aren't met, or the others
+abbrev pub AskedFacts : (unmet : Bool) → HaltFacts
+AskedFacts unmet before s stack kept origins left details =
     (label : List ℕ) × (more : List (Move (List ℕ))) × (left ≡ name label ∷ more)
-    × AreAsked before stack makers label details
+    × (all : List Detail) × AreAsked before stack origins label all
+    × (details ≡ filter (is_told unmet) all)
+
+-- what all of them ask, those first that aren't met
+abbrev pub TurnFacts : HaltFacts
+TurnFacts before s stack kept origins left details =
+    (label : List ℕ) × (more : List (Move (List ℕ))) × (left ≡ name label ∷ more)
+    × AreAskedInTurn before stack origins label details
+
+-- which types they ask for
+abbrev pub TypeFacts : HaltFacts
+TypeFacts before s stack kept origins left details =
+    (label : List ℕ) × (more : List (Move (List ℕ))) × (left ≡ name label ∷ more)
+    × AreTypesAsked before stack origins label details
+
+-- the numbers begin with the type code, if there is one
+abbrev pub HasOwnCode : Option (Sym × Sym) → (numbers : List ℕ) → Type 0
+HasOwnCode None numbers = Unit {0}
+HasOwnCode (Some typing) numbers = slice_get numbers 0 ≡ Some typing.0.0
+
+-- each of so many hypotheses has an entry that begins with its type code, if it has one
+abbrev pub HaveOwnCodes : List Hypothesis → (entries : List (List ℕ)) → (count : ℕ) → Type 0
+HaveOwnCodes hypotheses entries count =
+    (i : ℕ) (h : Hypothesis) (numbers : List ℕ) → i < count → slice_get hypotheses i ≡ Some h
+    → slice_get entries i ≡ Some numbers → HasOwnCode h.typing numbers
+
+-- there is a type code, with which the numbers don't begin
+abbrev pub HasOtherCode : Option (Sym × Sym) → (numbers : List ℕ) → (code : Sym) → Type 0
+HasOtherCode typing numbers code =
+    (x : Sym) × (typing ≡ Some (code, x)) × (slice_get numbers 0 ≢ Some code.0)
+
+-- The first hypothesis whose entry doesn't begin with its type code stands at this index.
+pub record IsFirstOfOtherCode (hypotheses : List Hypothesis) (entries : List (List ℕ))
+    (index : ℕ) (code : Sym) : Type 0 where
+  pub hypothesis : Hypothesis
+  pub its : slice_get hypotheses index ≡ Some hypothesis
+  pub numbers : List ℕ
+  pub entry : slice_get entries index ≡ Some numbers
+  pub other : HasOtherCode hypothesis.typing numbers code
+  pub before : HaveOwnCodes hypotheses entries index
 
 -- what its mandatory pairs ask
-abbrev pub ApartFacts : ProofRule → HaltFacts
-ApartFacts rule before s stack kept makers left details =
+abbrev pub DisjointFacts : ProofRule → HaltFacts
+DisjointFacts rule before s stack kept origins left details =
     (label : List ℕ) × (more : List (Move (List ℕ))) × (left ≡ name label ∷ more)
     × ArePairsAsked before rule stack label details
 
--- What so many hypotheses of the assertion ask was added, in order.
-pub record AskedSoFar (before : List Sentence) (stack : List Expression) (makers : List ℕ)
+-- What so many hypotheses of the assertion ask was added, in order, of those that aren't met, or of
+-- the others.
+pub record AskedSoFar (unmet : Bool) (before : List Sentence) (stack : List Expression)
+    (origins : List ℕ)
     (label : List ℕ) (m : MeetsHypotheses before stack label) (count : ℕ)
     (old new : List ℕ) : Type 0 where
   pub details : List Detail
-  pub told : new ≡ old ++ details_text details
+  pub told : new ≡ old ++ details_text (filter (is_told unmet) details)
   pub counted : length details ≡ count
   pub each : (i : ℕ) (h : Sentence) (given : Expression) (number : ℕ) → i < count
       → slice_get m.hypotheses i ≡ Some h → slice_get m.entries i ≡ Some given
-      → slice_get makers (length m.rest + i) ≡ Some number
+      → slice_get origins (length m.rest + i) ≡ Some number
       → (asked : Expression) × AsksFor before stack label i asked
       × (slice_get details i
       ≡ Some (hypothesis_asks (unwrap_or h.label []) asked number given))

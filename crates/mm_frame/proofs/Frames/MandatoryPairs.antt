@@ -15,7 +15,7 @@ use Rattle.mm_frame.specs.Rules.{IsMeant, AllMeant}
 use Rattle.mm_frame.specs.Frame.{IsMandatory, IsDistinct, IsMandatoryPair}
 use Rattle.mm_frame.specs.FrameIndex.{ArePairs, FrameIndex, IsTypingOf}
 use Rattle.mm_frame.specs.Numbers.{IsNumberOf, labelled_sentences}
-use Rattle.mm_frame.specs.Mirror.Gathered.{AreIndices, IsTypedBy, AreVariables, AreApart, AreFound}
+use Rattle.mm_frame.specs.Mirror.Gathered.{AreIndices, IsTypedBy, AreVariables, AreDisjoint, AreFound}
 use Rattle.mm_frame.specs.Mirror.Gathered.{AreThoseAt}
 use Rattle.mm_base.proofs.Lists.{get_kept, get_pushed, get_parted, pushed_cases, get_from_front}
 use Rattle.mm_base.proofs.Lists.{get_within, one_there, at_from_contains, contains_from_at}
@@ -162,7 +162,7 @@ module _ {st : List Sentence} {variables : List Sym} {i count : ℕ} {a b : Sym}
     {pairs : List (Sym × Sym)} (at_a : slice_get variables count ≡ Some a)
     (at_b : slice_get variables i ≡ Some b) (found : AreFound st variables i count pairs) where
   -- one pair more is no distinct pair
-  pub found_passed : ¬ (AreApart st a b) → AreFound st variables i (count + 1) pairs
+  pub found_passed : ¬ (AreDisjoint st a b) → AreFound st variables i (count + 1) pairs
   found_passed not_apart = record {
     only = λ m pair there.
         let (j, k, at_j, at_k, lt, reached, apart) = found.only m pair there in
@@ -173,7 +173,7 @@ module _ {st : List Sentence} {variables : List Sym} {i count : ℕ} {a b : Sym}
         | inl here ↦
             let first : a ≡ c = let at = subst (λ n. slice_get variables n ≡ Some c) here at_j in cc in
             let second : b ≡ d = let at = subst (λ n. slice_get variables n ≡ Some d) same at_k in cc in
-            absurd (not_apart (subst (λ m. AreApart st m b) (sym first) (subst (λ m. AreApart st c m) (sym second) apart)))
+            absurd (not_apart (subst (λ m. AreDisjoint st m b) (sym first) (subst (λ m. AreDisjoint st c m) (sym second) apart)))
         | inr (inl less) ↦ found.each j k c d at_j at_k lt (inr (same, less)) apart
         | inr (inr more) ↦ absurd (omega arith)
       ]
@@ -182,7 +182,7 @@ module _ {st : List Sentence} {variables : List Sym} {i count : ℕ} {a b : Sym}
   }
 
   -- one distinct pair more
-  pub found_more : (indices : List ℕ) → AreVariables st indices variables → count < i → AreApart st a b
+  pub found_more : (indices : List ℕ) → AreVariables st indices variables → count < i → AreDisjoint st a b
       → AreFound st variables i (count + 1) (pairs ++ (a, b) ∷ [])
   found_more indices are lt_i apart_ab = record {
     only = λ m pair there. elim (pushed_cases pairs (a, b) m pair there) [
@@ -196,7 +196,7 @@ module _ {st : List Sentence} {variables : List Sym} {i count : ℕ} {a b : Sym}
         at_b ∙ ap (λ (p : Sym × Sym). Some p.1) same,
         lt_i,
         inr (refl, omega arith),
-        subst (λ (p : Sym × Sym). AreApart st p.0 p.1) same apart_ab,
+        subst (λ (p : Sym × Sym). AreDisjoint st p.0 p.1) same apart_ab,
       )
     ];
     each = λ j k c d at_j at_k lt reached apart. elim reached [
@@ -256,7 +256,7 @@ pair_there pairs m q there =
 
 -- the pairs that are found, in one order or the other
 found_pair : (st : List Sentence) (indices : List ℕ) (variables : List Sym) (n : ℕ) (pairs : List (Sym × Sym)) (i j : ℕ) (a b : Sym) → length variables ≡ n → AreFound st variables n 0 pairs → slice_get variables i ≡ Some a → slice_get variables j ≡ Some b
-    → i < j → AreApart st a b → (m : ℕ) × (slice_get pairs m ≡ Some (a, b))
+    → i < j → AreDisjoint st a b → (m : ℕ) × (slice_get pairs m ≡ Some (a, b))
 found_pair st indices variables n pairs i j a b size found at_a at_b lt apart =
     let within = slice_get_within variables j b at_b in
     found.each i j a b at_a at_b lt (inl (omega arith)) apart

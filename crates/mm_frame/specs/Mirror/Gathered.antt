@@ -86,8 +86,8 @@ pub record AreVariables (st : List Sentence) (indices : List ℕ) (variables : L
       → i ≡ j
 
 -- the symbols with these numbers are a distinct pair
-abbrev pub AreApart : List Sentence → Sym → Sym → Type 0
-AreApart st a b =
+abbrev pub AreDisjoint : List Sentence → Sym → Sym → Type 0
+AreDisjoint st a b =
     (x : List ℕ) × (y : List ℕ) × IsNumberOf st x a.0 × IsNumberOf st y b.0 × IsDistinct st x y
 
 -- the indices j and k are reached: all before the k-th, and the first so many with the k-th
@@ -100,10 +100,10 @@ pub record AreFound (st : List Sentence) (variables : List Sym) (i count : ℕ)
   pub only : (m : ℕ) (pair : Sym × Sym) → slice_get pairs m ≡ Some pair
       → (j : ℕ) × (k : ℕ) × (slice_get variables j ≡ Some pair.0)
       × (slice_get variables k ≡ Some pair.1) × (j < k)
-      × IsReached i count j k × AreApart st pair.0 pair.1
+      × IsReached i count j k × AreDisjoint st pair.0 pair.1
   pub each : (j k : ℕ) (a b : Sym) → slice_get variables j ≡ Some a → slice_get variables k ≡ Some b
       → j < k
-      → IsReached i count j k → AreApart st a b → (m : ℕ) × (slice_get pairs m ≡ Some (a, b))
+      → IsReached i count j k → AreDisjoint st a b → (m : ℕ) × (slice_get pairs m ≡ Some (a, b))
   pub once : (m n : ℕ) (p q : Sym × Sym) → slice_get pairs m ≡ Some p → slice_get pairs n ≡ Some q
       → p.0.0 ≡ q.0.0
       → p.1.0 ≡ q.1.0 → m ≡ n

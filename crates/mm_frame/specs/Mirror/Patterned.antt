@@ -6,7 +6,7 @@ use Rattle.mm_frame.specs.declared.hypothesis.Hypothesis.{Hypothesis}
 use Rattle.mm_frame.specs.declared.number.LabelId.{LabelId}
 use Rattle.mm_frame.specs.declared.number.Sym.{Sym}
 use Rattle.mm_frame.specs.declared.piece.Piece.{Piece}
-use Rattle.mm_frame.specs.declared.scheme.Scheme.{Scheme}
+use Rattle.mm_frame.specs.declared.signature.Signature.{Signature}
 use Rattle.mm_frame.specs.declared.tables.Entry.{Entry}
 use Rattle.mm_frame.specs.declared.part.Part.{Part}
 use Rattle.mm_frame.specs.declared.tables.Tables.{Tables}
@@ -74,13 +74,13 @@ AreAmong variables pairs =
     → ¬ (IsNowhere pair.0.0 variables) × ¬ (IsNowhere pair.1.0 variables)
 
 -- this is what a step by the assertion at an index in its book asks of it
-pub record IsSchemeOf (frame : FrameIndex) (scheme : Scheme) : Type 0 where
-  pub ids : AreHypotheses frame (map (λ h. h.id.0) scheme.hypotheses.now)
-  pub typed : HaveTypings frame.statements scheme.hypotheses.now
+pub record IsSignatureOf (frame : FrameIndex) (signature : Signature) : Type 0 where
+  pub ids : AreHypotheses frame (map (λ h. h.id.0) signature.hypotheses.now)
+  pub typed : HaveTypings frame.statements signature.hypotheses.now
   pub pairs : ArePairs frame
-      (map (λ pair. (pair.variables.0.0, pair.variables.1.0)) scheme.pairs.now)
-  pub indices : HaveIndices (variables_of scheme.hypotheses.now) scheme.pairs.now
+      (map (λ pair. (pair.variables.0.0, pair.variables.1.0)) signature.pairs.now)
+  pub indices : HaveIndices (variables_of signature.hypotheses.now) signature.pairs.now
   pub conclusion : (s : Sentence) × (slice_get frame.statements frame.index ≡ Some s)
-      × AreItsPieces frame.statements (variables_of scheme.hypotheses.now) s scheme.conclusion.now
-  pub patterns : HavePatterns frame.statements (variables_of scheme.hypotheses.now)
-      scheme.pieces.now scheme.hypotheses.now
+      × AreItsPieces frame.statements (variables_of signature.hypotheses.now) s signature.conclusion.now
+  pub patterns : HavePatterns frame.statements (variables_of signature.hypotheses.now)
+      signature.pieces.now signature.hypotheses.now

@@ -1,5 +1,5 @@
 -- What is listed at the end of moves that have run.
-use Rattle.std.proofs.Common.{◌≡◌, ℕ, List, [], ◌∷◌, take, subst, sym}
+use Rattle.std.proofs.Common.{◌≡◌, ℕ, List, [], ◌∷◌, take, subst, sym, Bool, true}
 use Rattle.mm_base.proofs.Lists.{zip_take}
 use Rattle.mm_frame.specs.Sentence.{Sentence}
 use Rattle.mm_step.specs.declared.fault.ProofRule.{ProofRule}
@@ -7,7 +7,7 @@ use Rattle.mm_step.specs.Moves.{Move}
 use Rattle.mm_step.specs.Proof.{IsWithin, Passed}
 use Rattle.mm_step.specs.Steps.{IsNumberedMove, AreSteps}
 use Rattle.mm_step.specs.Mirror.Sites.{ProofSite, IsSite}
-use Rattle.mm_proof.specs.KnownPrefix.{Pass}
+use Rattle.mm_proof.specs.CheckedPrefix.{Pass}
 use Rattle.mm_proof.specs.Verified.{OfMoves}
 use Rattle.mm_step.specs.Mirror.CodeRun.{HasRun}
 use Rattle.mm_frame.specs.Numbers.{IsNumbered}
@@ -15,6 +15,7 @@ use Rattle.mm_frame.specs.FrameIndex.{AreItsSymbols}
 use Rattle.mm_step.proofs.ByNumbers.OneIndex.{one_index}
 use Rattle.mm_listing.specs.declared.lines.Line.{Line}
 use Rattle.mm_listing.specs.Listing.{AreLinesOf}
+use Rattle.mm_listing.proofs.Machines.ToldLines.{every_line}
 use Rattle.mm_listing.specs.Mirror.CodeLines.{AreLinesAt, BreaksAt, ListsProof}
 use Rattle.mm_proof.proofs.ProofVerdicts.JudgedMoves.{proved_end}
 use Rattle.mm_proof.proofs.ProofVerdicts.PassedMoves.{no_fault_within}
@@ -23,14 +24,18 @@ use Rattle.mm_listing.proofs.Machines.ProofHalts.{meant_before}
 -- ==== what is listed at the end
 
 -- the moves have run, and left the statement's expression
-pub lists_end : (limit : ℕ) (st : List Sentence) (id own : ℕ) (t : Sentence) (xs : List (Move ℕ)) (stack kept : List (List ℕ)) (count : ℕ) (numbers : List ℕ) (lines : List Line)
-    → IsNumbered st id own t → AreItsSymbols (record { statements = st; index = own }) numbers → HasRun limit st own xs stack kept count → stack ≡ numbers ∷ []
-    → AreLinesAt st own xs lines → ListsProof limit st id xs lines
-lists_end limit st id own t xs stack kept count numbers lines n symbols run is lines_so index s names proof numbered =
+pub lists_end : (limit : ℕ) (st : List Sentence) (id own : ℕ) (t : Sentence) (xs : List (Move ℕ))
+    (stack kept : List (List ℕ)) (count : ℕ) (numbers : List ℕ) (expressed : ℕ → Bool)
+    (lines : List Line)
+    → IsNumbered st id own t → AreItsSymbols (record { statements = st; index = own }) numbers
+    → HasRun limit st own xs stack kept count → stack ≡ numbers ∷ []
+    → AreLinesAt st expressed own xs lines → ListsProof limit st id xs expressed lines
+lists_end limit st id own t xs stack kept count numbers expressed lines n symbols run is lines_so
+    index s names proof numbered =
     let here : own ≡ index = one_index st id own index t s n proof.numbered in (
       proved_end limit st id own t xs stack kept count numbers n symbols run is index s names proof
           numbered,
-      subst (λ p. AreLinesAt st p xs lines) here lines_so names numbered,
+      subst (λ p. AreLinesAt st expressed p xs lines) here lines_so names numbered,
     )
 
 -- ==== what is listed of first moves
@@ -59,7 +64,7 @@ module _ (site : ProofSite) (xs : List (Move ℕ)) (n : ℕ) (own : IsSite site)
 
   -- their lines are those of their names
   pub front_listed : (lines : List Line)
-      → AreLinesAt site.statements site.index (take n xs) lines
+      → AreLinesAt site.statements (λ step. true) site.index (take n xs) lines
       → OfMoves site.statements site.number xs (λ index s moves.
       AreLinesOf site.statements (take index site.statements) (take n moves) lines)
   front_listed lines listed index s moves proof numbered =
@@ -67,4 +72,5 @@ module _ (site : ProofSite) (xs : List (Move ℕ)) (n : ℕ) (own : IsSite site)
       let here : site.index ≡ index =
       one_index st site.number site.index index own.s s own.proof.numbered proof.numbered in
       subst (λ i. AreLinesOf st (take i st) (take n moves) lines) here
-      (listed (take n moves) (zip_take (IsNumberedMove st) xs moves n numbered))
+      (every_line st _ _ lines
+      (listed (take n moves) (zip_take (IsNumberedMove st) xs moves n numbered)))

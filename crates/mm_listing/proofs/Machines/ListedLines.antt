@@ -1,18 +1,18 @@
 -- The lines of a lister: one for each step, by numbers and by names.
 use Rattle.std.proofs.Common.{◌≡◌, ℕ, suc, ◌+◌, ◌<◌, List, [], ◌∷◌, ◌++◌, length, take, drop}
 use Rattle.std.proofs.Common.{slice_get, Some, true, ◌⊎◌, inl, inr, refl, sym, ap, subst, ◌∙◌}
-use Rattle.std.proofs.Common.{arith, ⊎_elim, ◌-◌}
+use Rattle.std.proofs.Common.{arith, ⊎_elim, ◌-◌, Bool}
 use Rattle.std.proofs.lemmas.Bool.{false≢true}
 use Rattle.std.proofs.lemmas.Option.{slice_get_within, same_Some}
 use Rattle.std.proofs.lemmas.List.{take-append-le, take_at, length-append, length-map}
-use Rattle.mm_base.proofs.Lists.{split_at, get_kept, pushed_cases, zip_left, zip_push, zip_front}
+use Rattle.mm_base.proofs.Lists.{split_at, get_kept, pushed_cases, zip_left, zip_front}
 use Rattle.mm_base.proofs.Lists.{all_at, all_weaker, get_pushed}
 use Rattle.mm_frame.specs.Sentence.{Sentence}
 use Rattle.mm_step.specs.Tree.{none, tree, beside, roots, DeriveAll}
 use Rattle.mm_step.specs.Moves.{Move, name, again, mark, is_step, steps_in, Makes}
 use Rattle.mm_step.specs.Proof.{Passed, IsWithin}
 use Rattle.mm_listing.specs.Listing.{ListedStep, StandsAfter, MakeLast, IsListed, AreListed, StepName}
-use Rattle.mm_listing.specs.Listing.{IsCalled, IsNameOf, TellsStep}
+use Rattle.mm_listing.specs.Listing.{IsCalled, IsNameOf}
 use Rattle.mm_step.proofs.ProofSteps.Derivations.{derive_halves, single_derives, makes_split}
 use Rattle.mm_step.proofs.ProofSteps.Derivations.{roots-beside, roots_derive}
 use Rattle.mm_proof.proofs.ProofVerdicts.VerdictLaws.{derive_any}
@@ -25,13 +25,16 @@ use Rattle.mm_step.specs.Steps.{IsNumberedMove, AreNumberedMoves}
 use Rattle.mm_step.specs.Mirror.CodeVerify.{IsSymbol, AreDeclaredSymbols, AreBelow, names_at}
 use Rattle.mm_step.specs.Mirror.CodeVerify.{all_names_at}
 use Rattle.mm_step.specs.Mirror.CodeRun.{HasRun}
-use Rattle.mm_listing.specs.Mirror.CodeLines.{AreLinesAt, AreTagsFor, HasListed}
+use Rattle.mm_listing.specs.Mirror.CodeLines.{AreLinesAt, AreTagsFor, HasListed, expresses}
+use Rattle.mm_listing.specs.Mirror.CodeLines.{IsLastWhere}
+use Rattle.mm_listing.specs.declared.lines.Expressed.{Expressed}
 use Rattle.mm_proof.specs.Mirror.Judges.{HasJudged}
 use Rattle.mm_proof.specs.declared.judge.Judge.{Judge}
 use Rattle.mm_listing.specs.declared.lines.Lister.{Lister}
 use Rattle.mm_proof.proofs.ProofVerdicts.JudgedMoves.{last_split, same_steps, same_kind}
 use Rattle.mm_step.proofs.ByNumbers.NamedEntries.{named_push}
 use Rattle.mm_proof.proofs.ProofNumbers.NumbersNamed.{numbers_named}
+use Rattle.mm_listing.proofs.Machines.ToldLines.{none_told, one_more_told, last_told}
 
 -- ==== one move more in a listing
 
@@ -179,26 +182,34 @@ tags_more st prefix tags new count all are moves numbered tag step there =
 -- ---- lines
 
 -- nothing is listed
-lines_none : (st : List Sentence) (index : ℕ) → AreLinesAt st index [] []
-lines_none st index [] numbered = ([], record { count = refl; each = λ index move step there is at. absurd cc }, tt)
-lines_none st index (m ∷ moves) numbered = absurd numbered
+lines_none : (st : List Sentence) (expressed : ℕ → Bool) (index : ℕ)
+    → AreLinesAt st expressed index [] []
+lines_none st expressed index [] numbered = (
+  [],
+  record { count = refl; each = λ index move step there is at. absurd cc },
+  none_told st expressed,
+)
+lines_none st expressed index (m ∷ moves) numbered = absurd numbered
 
 -- a step more, which is called so
-line_more : (limit : ℕ) (st : List Sentence) (index : ℕ) (prefix : List (Move ℕ)) (x : Move ℕ) (stack kept : List (List ℕ)) (count : ℕ) (lines : List Line) (line : Line)
-    → HasRun limit st index (prefix ++ x ∷ []) stack kept count → slice_get stack (length stack - 1) ≡ Some (numbers_in line.expression.items) → is_step x ≡ true
+line_more : (limit : ℕ) (st : List Sentence) (expressed : ℕ → Bool) (index : ℕ)
+    (prefix : List (Move ℕ)) (x : Move ℕ) (stack kept : List (List ℕ)) (count : ℕ)
+    (lines : List Line) (line : Line)
+    → HasRun limit st index (prefix ++ x ∷ []) stack kept count → 0 < length stack
+    → IsLastWhere (expressed (length lines)) stack line.expression.items → is_step x ≡ true
     → ((moves : List (Move (List ℕ))) (move : Move (List ℕ)) → AreNumberedMoves st prefix moves → IsNumberedMove st x move
     → (called : StepName) × IsNameOf st line.name called × IsCalled moves move called)
-    → AreLinesAt st index prefix lines → AreLinesAt st index (prefix ++ x ∷ []) (lines ++ line ∷ [])
-line_more limit st index prefix x stack kept count lines line run last is calls old moves numbered =
+    → AreLinesAt st expressed index prefix lines
+    → AreLinesAt st expressed index (prefix ++ x ∷ []) (lines ++ line ∷ [])
+line_more limit st expressed index prefix x stack kept count lines line run some last is calls old
+    moves numbered =
     let before : List Sentence = take index st in
-    let e : List ℕ = numbers_in line.expression.items in
     let h = zip_front (IsNumberedMove st) prefix x moves numbered in
-    let within : length stack - 1 < length stack = slice_get_within stack (length stack - 1) e last in
-    let parts = last_split stack (omega arith) in
-    let top : parts.1 ≡ e = same_Some parts.1 e (sym parts.3 ∙ last) in
+    let parts = last_split stack some in
+    let e : List ℕ = parts.1 in
     let made : MakeLast before moves (names_at st e) = last_made (IsWithin limit) before moves (all_names_at st parts.0) (all_names_at st kept) (names_at st e)
-    (rw (parts.2, named_push st parts.0 parts.1, top) at (run.passed moves numbered)) in
-    let entry : AreDeclaredSymbols st before e = all_at (AreDeclaredSymbols st before) stack (length stack - 1) e run.entries last in
+    (rw (parts.2, named_push st parts.0 parts.1) at (run.passed moves numbered)) in
+    let entry : AreDeclaredSymbols st before e = all_at (AreDeclaredSymbols st before) stack (length stack - 1) e run.entries parts.3 in
     let below : AreBelow st e = all_weaker (IsSymbol st before) (λ k. k < length (symbols_of st)) (λ k i. i.below) e entry in
     let call = calls h.0 h.1 h.3 h.4 in
     let new : ListedStep = record { called = call.0; expression = names_at st e } in
@@ -207,12 +218,16 @@ line_more limit st index prefix x stack kept count lines line run last is calls 
       subst (λ l. AreListed before l (was.0 ++ new ∷ [])) (sym h.2)
           (listed_step before h.0 h.1 was.0 new was.1 (sym (same_kind st x h.1 h.4) ∙ is)
           (record { called = call.2; pushed = subst (λ l. MakeLast before l (names_at st e)) h.2 made })),
-      zip_push (TellsStep st) lines was.0 line new was.2 (record { called = call.1; pushed = numbers_named st e below }),
+      one_more_told st expressed lines was.0 line new was.2
+          (last_told st (expressed (length lines)) stack line new e parts.3 last call.1
+          (numbers_named st e below)),
     )
 
 -- a mark more
-line_mark : (st : List Sentence) (index : ℕ) (prefix : List (Move ℕ)) (lines : List Line) → AreLinesAt st index prefix lines → AreLinesAt st index (prefix ++ mark ∷ []) lines
-line_mark st index prefix lines old moves numbered =
+line_mark : (st : List Sentence) (expressed : ℕ → Bool) (index : ℕ) (prefix : List (Move ℕ))
+    (lines : List Line) → AreLinesAt st expressed index prefix lines
+    → AreLinesAt st expressed index (prefix ++ mark ∷ []) lines
+line_mark st expressed index prefix lines old moves numbered =
     let h = zip_front (IsNumberedMove st) prefix mark moves numbered in
     let was = old h.0 h.3 in
     (was.0, subst (λ l. AreListed (take index st) l was.0) (sym (h.2 ∙ ap (λ m. h.0 ++ m ∷ []) h.4)) (listed_mark (take index st) h.0 was.0 was.1), was.2)
@@ -225,8 +240,10 @@ module _ {S : Type 0} (stack kept : S → List (List ℕ)) where
       → first.lines.now.items ≡ [] → first.tags.now.items ≡ [] → HasListed stack kept first first []
   lists_none first judged lines tags = record {
     same_lines = refl;
+    same_choice = refl;
     judged = judged;
-    listed = rw lines (lines_none first.judge.table.now.site.statements first.judge.table.now.site.index);
+    listed = rw lines (lines_none first.judge.table.now.site.statements
+        (expresses first.expressed) first.judge.table.now.site.index);
     stand = rw tags (λ moves numbered tag step there. absurd cc);
     count = (let a = judged.run.count in omega (arith, ap length lines, a));
     marks = (let a = judged.all in omega (arith, ap length tags, a));
@@ -238,11 +255,13 @@ module _ {S : Type 0} (stack kept : S → List (List ℕ)) where
       → HasJudged stack kept first.judge new.judge (prefix ++ x ∷ []) → is_step x ≡ true
       → new.lines.ghost_name ≡ old.lines.ghost_name
       → new.lines.now.items ≡ old.lines.now.items ++ line ∷ []
-      → new.tags.now.items ≡ old.tags.now.items
-      → (let entries = stack new.judge.store.now in slice_get entries (length entries - 1) ≡ Some (numbers_in line.expression.items))
+      → new.tags.now.items ≡ old.tags.now.items → new.expressed ≡ old.expressed
+      → 0 < length (stack new.judge.store.now)
+      → IsLastWhere (expresses old.expressed (length old.lines.now.items))
+      (stack new.judge.store.now) line.expression.items
       → (let st = first.judge.table.now.site.statements in (moves : List (Move (List ℕ))) (move : Move (List ℕ)) → AreNumberedMoves st prefix moves → IsNumberedMove st x move → (called : StepName) × IsNameOf st line.name called × IsCalled moves move called)
       → HasListed stack kept first new (prefix ++ x ∷ [])
-  lists_step first old new prefix x line was judged is same lines tags last calls =
+  lists_step first old new prefix x line was judged is same lines tags choice some last calls =
       let site = first.judge.table.now.site in
       let now = judged.run.count in
       let before = was.judged.run.count in
@@ -250,9 +269,13 @@ module _ {S : Type 0} (stack kept : S → List (List ℕ)) where
       let step = one_step x is in
       record {
         same_lines = same ∙ was.same_lines;
+        same_choice = choice ∙ was.same_choice;
         judged = judged;
-        listed = rw lines (line_more site.limit site.statements site.index prefix x _ _ _ _ line
-            judged.run last is calls was.listed);
+        listed = rw lines (line_more site.limit site.statements (expresses first.expressed)
+            site.index prefix x _ _ _ _ line judged.run some
+            (subst (λ (e : Expressed). IsLastWhere (expresses e (length old.lines.now.items))
+            (stack new.judge.store.now) line.expression.items) was.same_choice last)
+            is calls was.listed);
         stand = rw tags (tags_later site.statements prefix x old.tags.now.items was.stand);
         count = omega (
           arith,
@@ -284,16 +307,18 @@ module _ {S : Type 0} (stack kept : S → List (List ℕ)) where
       → HasJudged stack kept first.judge new.judge (prefix ++ mark ∷ [])
       → new.lines.ghost_name ≡ old.lines.ghost_name → new.lines.now.items ≡ old.lines.now.items
       → new.tags.now.items ≡ old.tags.now.items ++ number ∷ [] → number ≡ length old.lines.now.items
-      → HasListed stack kept first new (prefix ++ mark ∷ [])
-  lists_mark first old new prefix number was judged same lines tags is =
+      → new.expressed ≡ old.expressed → HasListed stack kept first new (prefix ++ mark ∷ [])
+  lists_mark first old new prefix number was judged same lines tags is choice =
       let site = first.judge.table.now.site in
       let one = steps_in-append prefix (mark ∷ []) in
       let now = judged.run.count in
       let before = was.judged.run.count in
       record {
         same_lines = same ∙ was.same_lines;
+        same_choice = choice ∙ was.same_choice;
         judged = judged;
-        listed = rw lines (line_mark site.statements site.index prefix _ was.listed);
+        listed = rw lines (line_mark site.statements (expresses first.expressed) site.index prefix
+            _ was.listed);
         stand = rw tags (tags_more site.statements prefix old.tags.now.items number
             (is ∙ was.count ∙ before)
             (omega (arith, is, was.count, was.marks, was.judged.all)) was.stand);

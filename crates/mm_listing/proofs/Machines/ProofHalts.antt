@@ -28,7 +28,7 @@ use Rattle.mm_step.specs.Mirror.CodeVerify.{all_names_at, names_at, AreBelow, Ar
 use Rattle.mm_step.specs.Mirror.CodeVerify.{IsSymbol}
 use Rattle.mm_step.specs.Mirror.CodeRun.{MayBeMade, HasRun}
 use Rattle.mm_step.specs.Mirror.Sites.{ProofSite, IsSite}
-use Rattle.mm_listing.specs.Mirror.StackMakers.{AreMakersAt, BreaksAfter}
+use Rattle.mm_listing.specs.Mirror.StackOrigins.{AreOriginsAt, BreaksAfter}
 use Rattle.mm_listing.specs.Mirror.CodeHalts.{StandsBy, IsEndRule, HaltsMoves}
 use Rattle.mm_step.proofs.ByNumbers.OneIndex.{one_index}
 use Rattle.mm_proof.proofs.ProofVerdicts.PassedMoves.{passed_once, no_fault_within}
@@ -148,11 +148,11 @@ module _ (site : ProofSite) (xs : List (Move ℕ)) (stack kept : List (List ℕ)
   halts_move : (rule : ProofRule) → (broken : BreaksAfter site xs rule halt.passed)
       → HasRun site.limit site.statements site.index (take halt.passed xs) stack kept count
       → halt.steps ≡ count → halt.entries ≡ stack
-      → AreMakersAt site.limit site.statements site.index (take halt.passed xs) stack
-      halt.makers.items
+      → AreOriginsAt site.limit site.statements site.index (take halt.passed xs) stack
+      halt.origins.items
       → StandsBy broken.move halt.at → halt.rule ≡ Some rule
       → (prefix : Bool) → HaltsMoves site.limit site.statements site.number prefix xs halt
-  halts_move rule broken run steps entries makers place is prefix index s names proof numbered =
+  halts_move rule broken run steps entries origins place is prefix index s names proof numbered =
       let st = site.statements in
       let n : ℕ = halt.passed in
       let here : site.index ≡ index =
@@ -182,14 +182,14 @@ module _ (site : ProofSite) (xs : List (Move ℕ)) (stack kept : List (List ℕ)
           stack = all_names_at st stack;
           kept = all_names_at st kept;
           passed = passed;
-          makers = halt.makers.items;
-          made = makers earlier front;
+          origins = halt.origins.items;
+          made = origins earlier front;
           stops = subst (λ r. StopsWith (IsWithin site.limit) before s prefix
               (all_names_at st stack) (all_names_at st kept) (move.0 ∷ later) r) (sym is) fault;
         };
         count = sym (length-take-le n names (omega (arith, within)));
         steps = steps ∙ run.count ∙ same_steps st (take n xs) earlier front;
-        same_makers = refl;
+        same_origins = refl;
         entries = rw entries (entries_numbered st before stack run.entries);
         place = stands st broken.move halt.at move.0 later place move.2;
       })
@@ -215,10 +215,10 @@ module _ (site : ProofSite) (xs : List (Move ℕ)) (stack kept : List (List ℕ)
       → AreItsSymbols (record { statements = site.statements; index = site.index }) numbers
       → HasRun site.limit site.statements site.index xs stack kept count
       → halt.steps ≡ count → halt.entries ≡ stack
-      → AreMakersAt site.limit site.statements site.index xs stack halt.makers.items
+      → AreOriginsAt site.limit site.statements site.index xs stack halt.origins.items
       → IsEndRule prefix halt.rule stack numbers → halt.at ≡ at.End → halt.passed ≡ length xs
       → HaltsMoves site.limit site.statements site.number prefix xs halt
-  halts_end numbers prefix one symbols run steps entries makers end place passed index s names
+  halts_end numbers prefix one symbols run steps entries origins end place passed index s names
       proof numbered =
       let st = site.statements in
       let here : site.index ≡ index =
@@ -233,14 +233,14 @@ module _ (site : ProofSite) (xs : List (Move ℕ)) (stack kept : List (List ℕ)
           stack = all_names_at st stack;
           kept = all_names_at st kept;
           passed = run.passed names numbered;
-          makers = halt.makers.items;
-          made = makers names numbered;
+          origins = halt.origins.items;
+          made = origins names numbered;
           stops = stops_end s numbers prefix halt.rule one expression.0 expression.1 run.entries
               end;
         };
         count = passed ∙ sym (AllZip-long (IsNumberedMove st) xs names numbered);
         steps = steps ∙ run.count ∙ same_steps st xs names numbered;
-        same_makers = refl;
+        same_origins = refl;
         entries = rw entries
             (entries_numbered st (take site.index st) stack run.entries);
         place = place;
@@ -253,13 +253,13 @@ pub halts_code : (site : ProofSite) (ids : List ℕ) (said : List Code) (code : 
     → HasRun site.limit site.statements site.index (code_moves ids (take halt.passed said)) stack
     kept count
     → halt.steps ≡ count → halt.entries ≡ stack
-    → AreMakersAt site.limit site.statements site.index (code_moves ids (take halt.passed said))
-    stack halt.makers.items
+    → AreOriginsAt site.limit site.statements site.index (code_moves ids (take halt.passed said))
+    stack halt.origins.items
     → slice_get said halt.passed ≡ Some code → StandsBy (code_move ids code) halt.at
     → halt.rule ≡ Some rule
     → (prefix : Bool)
     → HaltsMoves site.limit site.statements site.number prefix (code_moves ids said) halt
-halts_code site ids said code stack kept count halt rule own broken run steps entries makers there
+halts_code site ids said code stack kept count halt rule own broken run steps entries origins there
     place is =
     let n : ℕ = halt.passed in
     let f = code_move ids in
@@ -271,17 +271,17 @@ halts_code site ids said code stack kept count halt rule own broken run steps en
     halts_move site xs stack kept count halt own rule broken
     (subst (λ l. HasRun site.limit site.statements site.index l stack kept count) front run)
     steps entries
-    (subst (λ l. AreMakersAt site.limit site.statements site.index l stack halt.makers.items) front
-    makers)
+    (subst (λ l. AreOriginsAt site.limit site.statements site.index l stack halt.origins.items) front
+    origins)
     (subst (λ m. StandsBy m halt.at) move place) is
 
 -- ---- the entries that are left
 
 -- as many as steps that made them
-pub makers_count : (limit : ℕ) (st : List Sentence) (index : ℕ) (xs : List (Move ℕ))
-    (stack : List (List ℕ)) (makers : List ℕ) → AreMakersAt limit st index xs stack makers
-    → (names : List (Move (List ℕ))) × AreNumberedMoves st xs names → length stack ≡ length makers
-makers_count limit st index xs stack makers made names =
+pub origins_count : (limit : ℕ) (st : List Sentence) (index : ℕ) (xs : List (Move ℕ))
+    (stack : List (List ℕ)) (origins : List ℕ) → AreOriginsAt limit st index xs stack origins
+    → (names : List (Move (List ℕ))) × AreNumberedMoves st xs names → length stack ≡ length origins
+origins_count limit st index xs stack origins made names =
     sym ((made names.0 names.1).count ∙ length-map stack (names_at st))
 
 -- its numbers tell an entry

@@ -25,7 +25,7 @@ use Rattle.mm_step.specs.Moves.{Move, name, again, mark, is_step, steps_in, Make
 use Rattle.mm_step.specs.Proof.{Passed}
 use Rattle.mm_step.specs.Steps.{IsNumberedMove}
 use Rattle.mm_listing.specs.Listing.{StandsAfter}
-use Rattle.mm_listing.specs.Halted.{LeaveEntries, AreMakers}
+use Rattle.mm_listing.specs.Halted.{LeaveEntries, AreOrigins}
 use Rattle.mm_listing.specs.Uses.{StandsFor, AreSources, IsAsked, IsUsing}
 use Rattle.mm_step.specs.Mirror.CodeApply.{IsCallOf}
 use Rattle.mm_listing.specs.Mirror.StepUses.{sources_of, IsAskedOf, IsAmong, AreNoLater, AreEarlier}
@@ -37,7 +37,7 @@ use Rattle.mm_proof.proofs.ProofVerdicts.FirstFault.{steps_in-append}
 use Rattle.mm_step.proofs.ByNumbers.NumberedSymbols.{drop_get, hypothesis_at, as_many}
 use Rattle.mm_step.proofs.ByNumbers.StepByAssertion.{label_of, names_of, called_of}
 use Rattle.mm_listing.proofs.Machines.ListedLines.{old_or_new, one_step}
-use Rattle.mm_listing.proofs.Machines.StepGivers.{those_same, sources_long, of_step, of_mark}
+use Rattle.mm_listing.proofs.Machines.StepOperands.{those_same, sources_long, of_step, of_mark}
 
 -- ==== what steps stand for
 
@@ -149,10 +149,10 @@ leave_any : (Fits : Expression → Type 0) (before : List Sentence) (moves : Lis
     → LeaveEntries AnyExpression before moves count
 leave_any Fits before moves count l = (l.0, l.1, passed_any Fits before moves l.0 l.1 l.2, l.3)
 
-makers_any : (Fits : Expression → Type 0) (before : List Sentence) (moves : List (Move (List ℕ)))
-    (stack : List Expression) (makers : List ℕ) → AreMakers Fits before moves stack makers
-    → AreMakers AnyExpression before moves stack makers
-makers_any Fits before moves stack makers was = record {
+origins_any : (Fits : Expression → Type 0) (before : List Sentence) (moves : List (Move (List ℕ)))
+    (stack : List Expression) (origins : List ℕ) → AreOrigins Fits before moves stack origins
+    → AreOrigins AnyExpression before moves stack origins
+origins_any Fits before moves stack origins was = record {
   count = was.count;
   each = λ index step there.
       let m = was.each index step there in
@@ -172,11 +172,11 @@ makers_any Fits before moves stack makers was = record {
 }
 
 -- a step that made an entry is one of them
-pub maker_among : (Fits : Expression → Type 0) (before : List Sentence) (moves : List (Move (List ℕ)))
-    (stack : List Expression) (makers : List ℕ) (index step : ℕ)
-    → AreMakers Fits before moves stack makers → slice_get makers index ≡ Some step
+pub origin_among : (Fits : Expression → Type 0) (before : List Sentence) (moves : List (Move (List ℕ)))
+    (stack : List Expression) (origins : List ℕ) (index step : ℕ)
+    → AreOrigins Fits before moves stack origins → slice_get origins index ≡ Some step
     → IsAmong (steps_in moves) step
-maker_among Fits before moves stack makers index step made there =
+origin_among Fits before moves stack origins index step made there =
     let m = made.each index step there in
     let whole = ap steps_in m.parts in
     let parts = steps_in-append m.earlier (m.move ∷ m.later) in
@@ -187,30 +187,30 @@ maker_among Fits before moves stack makers index step made there =
 
 -- ---- what the entries that a step takes were made by
 
--- each maker has a source
-sources_given : (sources makers : List ℕ)
-    → ((index step : ℕ) → slice_get makers index ≡ Some step → IsAmong (length sources) step)
-    → AllZip (λ maker giver. slice_get sources (maker - 1) ≡ Some giver) makers
-    (sources_of sources makers)
+-- each origin has a source
+sources_given : (sources origins : List ℕ)
+    → ((index step : ℕ) → slice_get origins index ≡ Some step → IsAmong (length sources) step)
+    → AllZip (λ origin operand. slice_get sources (origin - 1) ≡ Some operand) origins
+    (sources_of sources origins)
 sources_given sources [] among = tt
-sources_given sources (maker ∷ makers) among =
-    let one = among 0 maker refl in (
-      slice_get-get_or sources (maker - 1) 0 (omega (arith, one.0, one.1)),
-      sources_given sources makers (λ index step there. among (suc index) step there),
+sources_given sources (origin ∷ origins) among =
+    let one = among 0 origin refl in (
+      slice_get-get_or sources (origin - 1) 0 (omega (arith, one.0, one.1)),
+      sources_given sources origins (λ index step there. among (suc index) step there),
     )
 
 module _ (Fits : Expression → Type 0) (before : List Sentence) (all : AllMeant before)
     (moves : List (Move (List ℕ))) (label : List ℕ) (stack kept stack' kept' : List Expression)
-    (makers sources : List ℕ) where
-  -- the step by the label uses those of the makers' sources that are asked for
+    (origins sources : List ℕ) where
+  -- the step by the label uses those of the origins' sources that are asked for
   pub name_using : (essential : Bool) (Asked : ℕ → Type 0) (used : List ℕ)
       → Passed Fits before moves stack kept
       → Passed Fits before (moves ++ name label ∷ []) stack' kept'
-      → AreMakers Fits before moves stack makers → AreSources moves sources
+      → AreOrigins Fits before moves stack origins → AreSources moves sources
       → ((index : ℕ) (assertion : Sentence) (hypotheses : List Sentence)
       → Names before label index assertion hypotheses → (i : ℕ)
       → Asked i ↔ IsAsked essential hypotheses i)
-      → AreThose (λ i giver. Asked i) 0 (sources_of sources (drop (length stack' - 1) makers)) used
+      → AreThose (λ i operand. Asked i) 0 (sources_of sources (drop (length stack' - 1) origins)) used
       → IsUsing essential before moves (name label) used
   name_using essential Asked used p q made resolved asked those =
       let s = makes_split before moves (name label ∷ []) none q.trees [] q.shelf q.made in
@@ -223,7 +223,7 @@ module _ (Fits : Expression → Type 0) (before : List Sentence) (all : AllMeant
       (subst (λ t. DeriveAll Fits before t stack') (last.3.0 ∙ one.4) q.derived) in
       let d = new.4 in
       let n : ℕ = length stack' - 1 in
-      let rest : List ℕ = drop n makers in
+      let rest : List ℕ = drop n origins in
       let below : roots one.1 ≡ length old.1 = roots_derive Fits before one.1 old.1 old.4 in
       let left : roots one.0 ≡ length old.0 = roots_derive Fits before one.0 old.0 old.3 in
       let left' : roots one.0 ≡ length new.0 = roots_derive Fits before one.0 new.0 new.3 in
@@ -235,7 +235,7 @@ module _ (Fits : Expression → Type 0) (before : List Sentence) (all : AllMeant
       ap length old.2 ∙ length-append old.0 old.1 in
       let taken : length rest ≡ roots one.1 = omega (
         arith,
-        length-drop n makers,
+        length-drop n origins,
         made.count,
         was,
         deep,
@@ -248,7 +248,7 @@ module _ (Fits : Expression → Type 0) (before : List Sentence) (all : AllMeant
         | inl leaf ↦
             let gone : rest ≡ [] = nil_from_length rest (taken ∙ ap roots leaf.0) in
             inl (
-              subst (λ (l : List ℕ). AreThose (λ i giver. Asked i) 0 (sources_of sources l) used)
+              subst (λ (l : List ℕ). AreThose (λ i operand. Asked i) 0 (sources_of sources l) used)
                   gone those,
               leaf.1,
             )
@@ -262,21 +262,21 @@ module _ (Fits : Expression → Type 0) (before : List Sentence) (all : AllMeant
             stack = stack;
             kept = kept;
             passed = passed_any Fits before moves stack kept p;
-            others = take n makers;
-            makers = rest;
-            made = subst (AreMakers AnyExpression before moves stack)
-                (sym (take-append-drop n makers))
-                (makers_any Fits before moves stack makers made);
+            others = take n origins;
+            origins = rest;
+            made = subst (AreOrigins AnyExpression before moves stack)
+                (sym (take-append-drop n origins))
+                (origins_any Fits before moves stack origins made);
             paired = taken ∙ named.4;
             sources = sources;
             resolved = resolved;
             given = sources_given sources rest (λ index step there.
                 subst (λ k. IsAmong k step) (sym resolved.count)
-                (maker_among Fits before moves stack makers (n + index) step made
-                (sym (drop_get makers n index) ∙ there)));
+                (origin_among Fits before moves stack origins (n + index) step made
+                (sym (drop_get origins n index) ∙ there)));
           },
-          those_same (λ i giver. Asked i) (λ i giver. IsAsked essential named.2 i)
-              (λ i giver. asked named.0 named.1 named.2 named.3 i) 0 (sources_of sources rest)
+          those_same (λ i operand. Asked i) (λ i operand. IsAsked essential named.2 i)
+              (λ i operand. asked named.0 named.1 named.2 named.3 i) 0 (sources_of sources rest)
               used those,
         )
       ]
@@ -307,9 +307,9 @@ asked_same st index id (calls.Hypothesis symbols) label all is move true at a hy
       (λ some. absurd (hypothesis_or_assertion before used.at at used.s a label all there
           names.there named names.named is.2 names.kind)),
     )
-asked_same st index id (calls.Assertion scheme) label all is move true at a hypotheses names i =
-    let xs = scheme.hypotheses.now in
-    let called = called_of st index id scheme is in
+asked_same st index id (calls.Assertion signature) label all is move true at a hypotheses names i =
+    let xs = signature.hypotheses.now in
+    let called = called_of st index id signature is in
     let hs = is.hypotheses.hypotheses in
     let own : Names (take index st) label is.at called.s hs =
     names_of st index id is.at _ hs label called move in
@@ -341,21 +341,21 @@ asked_same st index id (calls.Assertion scheme) label all is move true at a hypo
           )),
     )
 
--- sources of makers that are among the first steps are too
-pub sources_among : (sources makers : List ℕ) (source : ℕ) → AreNoLater sources
-    → All (IsAmong (length sources)) makers → Contains (sources_of sources makers) source
+-- sources of origins that are among the first steps are too
+pub sources_among : (sources origins : List ℕ) (source : ℕ) → AreNoLater sources
+    → All (IsAmong (length sources)) origins → Contains (sources_of sources origins) source
     → IsAmong (length sources) source
-sources_among sources makers source no_later among is =
-    let f : ℕ → ℕ = λ maker. slice_index_or sources (maker - 1) 0 in
-    let at = at_from_contains (sources_of sources makers) source is in
-    let long = sources_long sources makers in
-    let within : at.0 < length makers =
-    omega (arith, long, slice_get_within (sources_of sources makers) at.0 source at.1) in
-    let m = get_within makers at.0 within in
-    let one = subst (IsAmong (length sources)) (get_or_from_slice_get makers at.0 m.0 0 m.1)
+sources_among sources origins source no_later among is =
+    let f : ℕ → ℕ = λ origin. slice_index_or sources (origin - 1) 0 in
+    let at = at_from_contains (sources_of sources origins) source is in
+    let long = sources_long sources origins in
+    let within : at.0 < length origins =
+    omega (arith, long, slice_get_within (sources_of sources origins) at.0 source at.1) in
+    let m = get_within origins at.0 within in
+    let one = subst (IsAmong (length sources)) (get_or_from_slice_get origins at.0 m.0 0 m.1)
     (among at.0 0 within) in
     let inside : m.0 - 1 < length sources = omega (arith, one.0, one.1) in
-    let mapped : slice_get (sources_of sources makers) at.0 ≡ Some (f m.0) =
+    let mapped : slice_get (sources_of sources origins) at.0 ≡ Some (f m.0) =
     rw (slice_get-map, m.1) refl in
     let same : f m.0 ≡ source = same_Some (f m.0) source (sym mapped ∙ at.1) in
     let s = no_later (m.0 - 1) source

@@ -22,16 +22,16 @@ use Rattle.mm_step.specs.Mirror.CodeVerify.{names_at, all_names_at}
 use Rattle.mm_listing.specs.Mirror.CodeLines.{HasListed}
 use Rattle.mm_listing.specs.Mirror.StepUses.{sources_of, IsAskedOf, IsAmong, AreNoLater, AreSourcesAt}
 use Rattle.mm_listing.specs.Mirror.StepUses.{AreUsesAt, HasLinked, MayBeLinked}
-use Rattle.mm_listing.specs.Mirror.StackMakers.{AreMakersAt}
+use Rattle.mm_listing.specs.Mirror.StackOrigins.{AreOriginsAt}
 use Rattle.mm_proof.proofs.ProofVerdicts.FirstFault.{steps_in-append}
 use Rattle.mm_step.proofs.ByNumbers.NumberedSymbols.{drop_get}
 use Rattle.mm_proof.proofs.ProofVerdicts.JudgedMoves.{same_steps, same_kind}
 use Rattle.mm_listing.proofs.Machines.ListedLines.{tag_stands}
-use Rattle.mm_listing.proofs.Machines.StackMakers.{makers_at_none, makers_at_step, makers_at_mark}
-use Rattle.mm_listing.proofs.Machines.StackMakers.{leaves_last}
-use Rattle.mm_listing.proofs.Machines.StepGivers.{those_within, of_none, of_step, of_mark}
+use Rattle.mm_listing.proofs.Machines.StackOrigins.{origins_at_none, origins_at_step, origins_at_mark}
+use Rattle.mm_listing.proofs.Machines.StackOrigins.{leaves_last}
+use Rattle.mm_listing.proofs.Machines.StepOperands.{those_within, of_none, of_step, of_mark}
 use Rattle.mm_listing.proofs.Machines.StepSources.{sources_step, sources_mark, step_first}
-use Rattle.mm_listing.proofs.Machines.StepSources.{stands_before, stands_within, maker_among}
+use Rattle.mm_listing.proofs.Machines.StepSources.{stands_before, stands_within, origin_among}
 use Rattle.mm_listing.proofs.Machines.StepSources.{name_using, asked_same, sources_among, rows_more}
 use Rattle.mm_listing.proofs.Machines.StepSources.{no_later_more}
 
@@ -47,19 +47,19 @@ at_none st Told (m ∷ moves) numbered = absurd numbered
 module _ {S : Type 0} (stack kept : S → List (List ℕ)) (first : Linker S) where
   -- before any move
   pub links_none : HasListed stack kept first.lister first.lister []
-      → stack first.lister.judge.store.now ≡ [] → first.makers.now.items ≡ []
+      → stack first.lister.judge.store.now ≡ [] → first.origins.now.items ≡ []
       → first.sources.now.items ≡ [] → first.uses.now.items ≡ [] → HasLinked stack kept first first
       []
-  links_none listed empty_stack makers sources uses =
+  links_none listed empty_stack origins sources uses =
       let site = first.lister.judge.table.now.site in
       let st = site.statements in
       record {
-        same_makers = refl;
+        same_origins = refl;
         same_sources = refl;
         same_uses = refl;
         same_choice = refl;
         listed = listed;
-        made = rw (empty_stack, makers) (makers_at_none site.limit st site.index);
+        made = rw (empty_stack, origins) (origins_at_none site.limit st site.index);
         resolved = rw sources (λ moves numbered. at_none st (StandsFor []) moves numbered);
         no_later = rw sources (λ index source there. absurd (none-some source there));
         used = rw uses (λ moves numbered.
@@ -84,38 +84,38 @@ module _ {S : Type 0} (stack kept : S → List (List ℕ)) (first : Linker S) wh
         let h = zip_front (IsNumberedMove st) prefix x allowed.0.1.0 allowed.0.1.1 in
         (was.used h.0 h.3).count ∙ sym (same_steps st prefix h.0 h.3)
 
-    -- the makers are among the steps
-    pub makers_among : (at : ℕ)
-        → All (IsAmong (length old.sources.now.items)) (drop at old.makers.now.items)
-    makers_among at k d less =
+    -- the origins are among the steps
+    pub origins_among : (at : ℕ)
+        → All (IsAmong (length old.sources.now.items)) (drop at old.origins.now.items)
+    origins_among at k d less =
         let site = first.lister.judge.table.now.site in
         let st = site.statements in
-        let makers = old.makers.now.items in
+        let origins = old.origins.now.items in
         let h = zip_front (IsNumberedMove st) prefix x allowed.0.1.0 allowed.0.1.1 in
-        let one = get_or (drop at makers) k d in
-        let there = sym (drop_get makers at k) ∙ slice_get-get_or (drop at makers) k d less in
+        let one = get_or (drop at origins) k d in
+        let there = sym (drop_get origins at k) ∙ slice_get-get_or (drop at origins) k d less in
         subst (λ n. IsAmong n one) (sym (was.resolved h.0 h.3).count)
-        (maker_among (IsWithin site.limit) (take site.index st) h.0 _ makers (at + k) one
+        (origin_among (IsWithin site.limit) (take site.index st) h.0 _ origins (at + k) one
         (was.made h.0 h.3) there)
 
     -- what a step leaves
     pub linker_left : (now : Lister S) → is_step x ≡ true
         → HasListed stack kept first.lister now (prefix ++ x ∷ [])
         → (0 < length (stack now.judge.store.now))
-        × (length (stack now.judge.store.now) - 1 ≤ length old.makers.now.items)
+        × (length (stack now.judge.store.now) - 1 ≤ length old.origins.now.items)
     linker_left now is listed =
         let site = first.lister.judge.table.now.site in
-        leaves_last site.limit site.statements site.index prefix _ _ _ _ _ _ old.makers.now.items
+        leaves_last site.limit site.statements site.index prefix _ _ _ _ _ _ old.origins.now.items
         allowed.1 was.listed.judged.run was.made x is listed.judged.run allowed.0.1.0 allowed.0.1.1
 
     -- a step that stands for this, and uses this
     links_step : (new : Linker S) (source : ℕ) (row : List ℕ) → is_step x ≡ true
         → HasListed stack kept first.lister new.lister (prefix ++ x ∷ [])
-        → new.makers.ghost_name ≡ old.makers.ghost_name
+        → new.origins.ghost_name ≡ old.origins.ghost_name
         → new.sources.ghost_name ≡ old.sources.ghost_name
         → new.uses.ghost_name ≡ old.uses.ghost_name → new.essential ≡ old.essential
-        → new.makers.now.items
-        ≡ take (length (stack new.lister.judge.store.now) - 1) old.makers.now.items
+        → new.origins.now.items
+        ≡ take (length (stack new.lister.judge.store.now) - 1) old.origins.now.items
         ++ new.lister.judge.steps ∷ []
         → new.sources.now.items ≡ old.sources.now.items ++ source ∷ []
         → rows_of new.uses.now.items ≡ rows_of old.uses.now.items ++ row ∷ []
@@ -131,19 +131,19 @@ module _ {S : Type 0} (stack kept : S → List (List ℕ)) (first : Linker S) wh
         → IsAmong (steps_in prefix + 1) source
         → ((used : ℕ) → Contains row used → IsAmong (steps_in prefix) used)
         → HasLinked stack kept first new (prefix ++ x ∷ [])
-    links_step new source row is listed makers_lent sources_lent uses_lent choice makers sources
+    links_step new source row is listed origins_lent sources_lent uses_lent choice origins sources
         uses told later earlier =
         let site = first.lister.judge.table.now.site in
         let st = site.statements in
         let before = take site.index st in
         record {
-          same_makers = makers_lent ∙ was.same_makers;
+          same_origins = origins_lent ∙ was.same_origins;
           same_sources = sources_lent ∙ was.same_sources;
           same_uses = uses_lent ∙ was.same_uses;
           same_choice = choice ∙ was.same_choice;
           listed = listed;
-          made = rw makers (makers_at_step site.limit st site.index prefix _ _ _ _ _ _
-              old.makers.now.items allowed.1 was.listed.judged.run was.made x is listed.judged.run);
+          made = rw origins (origins_at_step site.limit st site.index prefix _ _ _ _ _ _
+              old.origins.now.items allowed.1 was.listed.judged.run was.made x is listed.judged.run);
           resolved = λ moves numbered.
               let h = zip_front (IsNumberedMove st) prefix x moves numbered in
               let kind : is_step h.1 ≡ true = sym (same_kind st x h.1 h.4) ∙ is in
@@ -169,21 +169,21 @@ module _ {S : Type 0} (stack kept : S → List (List ℕ)) (first : Linker S) wh
       pub links_name : (new : Linker S) (id : ℕ) (call : Call) (row : List ℕ)
           → MayBeLinked first.lister.judge.table.now.site prefix (name id)
           → HasListed stack kept first.lister new.lister (prefix ++ name id ∷ [])
-          → new.makers.ghost_name ≡ old.makers.ghost_name
+          → new.origins.ghost_name ≡ old.origins.ghost_name
           → new.sources.ghost_name ≡ old.sources.ghost_name
           → new.uses.ghost_name ≡ old.uses.ghost_name → new.essential ≡ old.essential
-          → new.makers.now.items
-          ≡ take (length (stack new.lister.judge.store.now) - 1) old.makers.now.items
+          → new.origins.now.items
+          ≡ take (length (stack new.lister.judge.store.now) - 1) old.origins.now.items
           ++ new.lister.judge.steps ∷ []
           → new.sources.now.items ≡ old.sources.now.items ++ new.lister.judge.steps ∷ []
           → rows_of new.uses.now.items ≡ rows_of old.uses.now.items ++ row ∷ []
           → IsCallOf first.lister.judge.table.now.site.statements
           first.lister.judge.table.now.site.index id call
-          → AreThose (λ i giver. IsAskedOf old.essential call i) 0
+          → AreThose (λ i operand. IsAskedOf old.essential call i) 0
           (sources_of old.sources.now.items
-          (drop (length (stack new.lister.judge.store.now) - 1) old.makers.now.items)) row
+          (drop (length (stack new.lister.judge.store.now) - 1) old.origins.now.items)) row
           → HasLinked stack kept first new (prefix ++ name id ∷ [])
-      links_name new id call row allowed listed makers_lent sources_lent uses_lent choice makers
+      links_name new id call row allowed listed origins_lent sources_lent uses_lent choice origins
           sources uses call_is those =
           let site = first.lister.judge.table.now.site in
           let st = site.statements in
@@ -191,13 +191,13 @@ module _ {S : Type 0} (stack kept : S → List (List ℕ)) (first : Linker S) wh
           let x : Move ℕ = name id in
           let entries = stack new.lister.judge.store.now in
           let base : ℕ = length entries - 1 in
-          let taken = drop base old.makers.now.items in
-          let among = makers_among old prefix x was allowed base in
+          let taken = drop base old.origins.now.items in
+          let among = origins_among old prefix x was allowed base in
           let count = sources_count old prefix x was allowed in
           let now : new.lister.judge.steps ≡ steps_in prefix + 1 = listed.judged.run.count
           ∙ steps_in-append prefix (x ∷ []) in
-          links_step old prefix x was allowed new new.lister.judge.steps row refl listed makers_lent
-          sources_lent uses_lent choice makers sources uses
+          links_step old prefix x was allowed new new.lister.judge.steps row refl listed origins_lent
+          sources_lent uses_lent choice origins sources uses
           (λ earlier move numbered one own.
           let label : List ℕ = one.1 in
           let named : move ≡ name label = one.4 in
@@ -212,21 +212,21 @@ module _ {S : Type 0} (stack kept : S → List (List ℕ)) (first : Linker S) wh
           rw named (
             now ∙ ap (λ n. n + 1) (same_steps st prefix earlier numbered),
             name_using (IsWithin site.limit) before allowed.1 earlier label _ _ _ _
-                old.makers.now.items old.sources.now.items first.essential
+                old.origins.now.items old.sources.now.items first.essential
                 (IsAskedOf old.essential call) row p q (was.made earlier numbered)
                 (was.resolved earlier numbered)
                 (subst (λ (b : Bool). (at : ℕ) (a : Sentence) (hypotheses : List Sentence)
                 → Names before label at a hypotheses → (i : ℕ)
                 → IsAskedOf old.essential call i ↔ IsAsked b hypotheses i) was.same_choice
                 (asked_same st site.index id call label allowed.1 call_is number old.essential))
-                (subst (λ n. AreThose (λ i giver. IsAskedOf old.essential call i) 0
-                (sources_of old.sources.now.items (drop (n - 1) old.makers.now.items)) row)
+                (subst (λ n. AreThose (λ i operand. IsAskedOf old.essential call i) 0
+                (sources_of old.sources.now.items (drop (n - 1) old.origins.now.items)) row)
                 (sym long) those),
           ))
           (omega (arith, now), omega (arith, now))
           (λ used in_row. subst (λ n. IsAmong n used) count
           (sources_among old.sources.now.items taken used was.no_later among
-          (those_within (λ i giver. IsAskedOf old.essential call i) 0
+          (those_within (λ i operand. IsAskedOf old.essential call i) 0
           (sources_of old.sources.now.items taken) row used those in_row)))
 
       -- what is known of the step that the tag of a step stands after
@@ -264,18 +264,18 @@ module _ {S : Type 0} (stack kept : S → List (List ℕ)) (first : Linker S) wh
       pub links_again : (new : Linker S) (tag after source : ℕ)
           → MayBeLinked first.lister.judge.table.now.site prefix (again tag)
           → HasListed stack kept first.lister new.lister (prefix ++ again tag ∷ [])
-          → new.makers.ghost_name ≡ old.makers.ghost_name
+          → new.origins.ghost_name ≡ old.origins.ghost_name
           → new.sources.ghost_name ≡ old.sources.ghost_name
           → new.uses.ghost_name ≡ old.uses.ghost_name → new.essential ≡ old.essential
-          → new.makers.now.items
-          ≡ take (length (stack new.lister.judge.store.now) - 1) old.makers.now.items
+          → new.origins.now.items
+          ≡ take (length (stack new.lister.judge.store.now) - 1) old.origins.now.items
           ++ new.lister.judge.steps ∷ []
           → new.sources.now.items ≡ old.sources.now.items ++ source ∷ []
           → rows_of new.uses.now.items ≡ rows_of old.uses.now.items ++ [] ∷ []
           → slice_get new.lister.tags.now.items tag ≡ Some after
           → slice_get old.sources.now.items (after - 1) ≡ Some source
           → HasLinked stack kept first new (prefix ++ again tag ∷ [])
-      links_again new tag after source allowed listed makers_lent sources_lent uses_lent choice makers
+      links_again new tag after source allowed listed origins_lent sources_lent uses_lent choice origins
           sources uses there read =
           let st = first.lister.judge.table.now.site.statements in
           let x : Move ℕ = again tag in
@@ -283,8 +283,8 @@ module _ {S : Type 0} (stack kept : S → List (List ℕ)) (first : Linker S) wh
           let count = sources_count old prefix x was allowed in
           let next : after ≡ after - 1 + 1 = omega (arith, known.0) in
           let s = was.no_later (after - 1) source read in
-          links_step old prefix x was allowed new source [] refl listed makers_lent sources_lent
-          uses_lent choice makers sources uses
+          links_step old prefix x was allowed new source [] refl listed origins_lent sources_lent
+          uses_lent choice origins sources uses
           (λ earlier move numbered one own.
           rw one (
             (after - 1, subst (StandsAfter earlier tag) next (known.2 earlier numbered), read),
@@ -297,20 +297,20 @@ module _ {S : Type 0} (stack kept : S → List (List ℕ)) (first : Linker S) wh
       pub links_mark : (new : Linker S)
           → HasListed stack kept first.lister new.lister (prefix ++ mark ∷ [])
           → MayBeLinked first.lister.judge.table.now.site prefix mark
-          → new.makers ≡ old.makers → new.sources ≡ old.sources → new.uses ≡ old.uses
+          → new.origins ≡ old.origins → new.sources ≡ old.sources → new.uses ≡ old.uses
           → new.essential ≡ old.essential → HasLinked stack kept first new (prefix ++ mark ∷ [])
-      links_mark new listed allowed makers sources uses choice =
+      links_mark new listed allowed origins sources uses choice =
           let site = first.lister.judge.table.now.site in
           let st = site.statements in
           let before = take site.index st in
           record {
-            same_makers = rw makers was.same_makers;
+            same_origins = rw origins was.same_origins;
             same_sources = rw sources was.same_sources;
             same_uses = rw uses was.same_uses;
             same_choice = choice ∙ was.same_choice;
             listed = listed;
-            made = rw makers (makers_at_mark site.limit st site.index prefix _ _ _ _ _ _
-                old.makers.now.items allowed.1 was.listed.judged.run was.made listed.judged.run);
+            made = rw origins (origins_at_mark site.limit st site.index prefix _ _ _ _ _ _
+                old.origins.now.items allowed.1 was.listed.judged.run was.made listed.judged.run);
             resolved = rw sources (λ moves numbered.
                 let h = zip_front (IsNumberedMove st) prefix mark moves numbered in
                 rw (h.2, h.4) (sources_mark h.0 old.sources.now.items (was.resolved h.0 h.3)));
@@ -355,15 +355,15 @@ module _ (limit : ℕ) (st : List Sentence) (index : ℕ) (prefix : List (Move �
     (sources : List ℕ) (resolved : AreSourcesAt st prefix sources)
     (named : (names : List (Move (List ℕ))) × AreNumberedMoves st prefix names) where
   -- where an entry is left, there is a step
-  pub some_source : (stack : List (List ℕ)) (makers e : List ℕ)
-      → AreMakersAt limit st index prefix stack makers → stack ≡ e ∷ [] → 0 < length sources
-  some_source stack makers e made is =
+  pub some_source : (stack : List (List ℕ)) (origins e : List ℕ)
+      → AreOriginsAt limit st index prefix stack origins → stack ≡ e ∷ [] → 0 < length sources
+  some_source stack origins e made is =
       let own = made named.0 named.1 in
-      let long : length makers ≡ 1 =
+      let long : length origins ≡ 1 =
       own.count ∙ length-map stack (names_at st) ∙ ap length is in
-      let maker = get_within makers 0 (omega (arith, long)) in
-      let among = maker_among (IsWithin limit) (take index st) named.0 _ makers 0 maker.0 own
-      maker.1 in
+      let origin = get_within origins 0 (omega (arith, long)) in
+      let among = origin_among (IsWithin limit) (take index st) named.0 _ origins 0 origin.0 own
+      origin.1 in
       omega (arith, among.0, among.1, (resolved named.0 named.1).count)
 
   -- as many rows as sources

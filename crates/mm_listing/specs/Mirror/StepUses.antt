@@ -1,6 +1,6 @@
 -- What the code that tells what steps use knows on its way: it mirrors the code.
 use Rattle.std.specs.Prelude.{◌≡◌, ℕ, ◌+◌, ◌-◌, ◌<◌, ◌≤◌, List, map, take, slice_get, Some, None}
-use Rattle.std.specs.Prelude.{slice_index_or, length, Bool, true, false, Contains, ◌⊎◌, ◌↔◌}
+use Rattle.std.specs.Prelude.{slice_index_or, length, Bool, true, false, not, Contains, ◌⊎◌, ◌↔◌}
 use Rattle.mm_frame.specs.Sentence.{Sentence}
 use Rattle.mm_frame.specs.Rules.{AllMeant}
 use Rattle.mm_frame.specs.declared.hypothesis.Hypothesis.{Hypothesis}
@@ -12,23 +12,23 @@ use Rattle.mm_step.specs.Moves.{Move}
 use Rattle.mm_step.specs.Proof.{IsWithin}
 use Rattle.mm_proof.specs.Proof.{Prove}
 use Rattle.mm_step.specs.Steps.{AreNumberedMoves}
-use Rattle.mm_listing.specs.Listing.{AreLinesOf}
+use Rattle.mm_listing.specs.Listing.{AreLinesWith}
 use Rattle.mm_listing.specs.Uses.{AreSources, AreUses, IsRoot, IsReached, rows_of}
 use Rattle.mm_proof.specs.Verified.{OfMoves}
 use Rattle.mm_listing.specs.Mirror.CodeLines.{HasListed, MayBeListed}
-use Rattle.mm_listing.specs.Mirror.StackMakers.{AreMakersAt}
+use Rattle.mm_listing.specs.Mirror.StackOrigins.{AreOriginsAt}
 use Rattle.mm_step.specs.Mirror.Sites.{ProofSite}
 
 -- what the steps with these numbers stand for
-abbrev pub sources_of : (sources makers : List ℕ) → List ℕ
-sources_of sources makers = map (λ maker. slice_index_or sources (maker - 1) 0) makers
+abbrev pub sources_of : (sources origins : List ℕ) → List ℕ
+sources_of sources origins = map (λ origin. slice_index_or sources (origin - 1) 0) origins
 
 -- it is asked who gives the hypothesis at an index of what a label stands for
 abbrev pub IsAskedOf : (essential : Bool) → Call → (index : ℕ) → Type 0
 IsAskedOf false call index = Unit {0}
 IsAskedOf true (calls.Hypothesis symbols) index = ⊥
-IsAskedOf true (calls.Assertion scheme) index =
-    (h : Hypothesis) × (slice_get scheme.hypotheses.now index ≡ Some h) × (h.typing ≡ None)
+IsAskedOf true (calls.Assertion signature) index =
+    (h : Hypothesis) × (slice_get signature.hypotheses.now index ≡ Some h) × (h.typing ≡ None)
 
 -- the step is one of the first so many
 abbrev pub IsAmong : (count step : ℕ) → Type 0
@@ -69,14 +69,14 @@ AreUsesAt essential statements index prefix rows =
 -- what each step stands for, and these are its uses.
 pub record HasLinked {S : Type 0} (stack kept : S → List (List ℕ)) (first now : Linker S)
     (prefix : List (Move ℕ)) : Type 0 where
-  pub same_makers : now.makers.ghost_name ≡ first.makers.ghost_name
+  pub same_origins : now.origins.ghost_name ≡ first.origins.ghost_name
   pub same_sources : now.sources.ghost_name ≡ first.sources.ghost_name
   pub same_uses : now.uses.ghost_name ≡ first.uses.ghost_name
   pub same_choice : now.essential ≡ first.essential
   pub listed : HasListed stack kept first.lister now.lister prefix
   pub made : let site = first.lister.judge.table.now.site in
-      AreMakersAt site.limit site.statements site.index prefix
-      (stack now.lister.judge.store.now) now.makers.now.items
+      AreOriginsAt site.limit site.statements site.index prefix
+      (stack now.lister.judge.store.now) now.origins.now.items
   pub resolved : let site = first.lister.judge.table.now.site in
       AreSourcesAt site.statements prefix now.sources.now.items
   pub no_later : AreNoLater now.sources.now.items
@@ -96,5 +96,5 @@ abbrev pub LinksProof : (limit : ℕ) → (essential : Bool) → List Sentence �
 LinksProof limit essential statements id steps lines rows root =
     OfMoves statements id steps (λ index s moves.
     Prove (IsWithin limit) (take index statements) s moves
-    × AreLinesOf statements (take index statements) moves lines
+    × AreLinesWith statements (take index statements) moves (λ step. not essential) lines
     × AreUses essential (take index statements) moves rows × IsRoot moves root)

@@ -1,7 +1,7 @@
 -- What the code of `minimize` knows on its way. This file mirrors the code, and is cited by private
 -- contracts alone.
 use Rattle.std.specs.Prelude.{◌≡◌, ℕ, List, Contains, true, slice_get, length, take}
-use Rattle.std.specs.Prelude.{◌↔◌, ◌≤◌, None, Some}
+use Rattle.std.specs.Prelude.{◌↔◌, ◌≤◌, Option, None, Some}
 use Rattle.mm_base.specs.Statement.{PlainStatement}
 use Rattle.mm_text.specs.Files.{PlainFile}
 use Rattle.mm_text.specs.Reading.{Reads}
@@ -17,6 +17,10 @@ use Rattle.mm_proof.specs.Used.{AreUsed}
 use Rattle.mm_render.specs.declared.forms.OwnProof.{OwnProof}
 use Rattle.mm_minimize.specs.declared.remarks.Passed.{Passed}
 use Rattle.mm_minimize.specs.declared.remarks.Remark.{Remark}
+use Rattle.mm_minimize.specs.declared.search_watch.Searched.{Searched}
+use Rattle.mm_minimize.specs.declared.search_watch.Searched.TheVariants.{NoneShorter}
+use Rattle.mm_minimize.specs.declared.search_watch.Searched.TheVariants as of_search
+use Rattle.mm_minimize.specs.declared.shorter_list.Sizes.{Sizes}
 use Rattle.mm_minimize.specs.declared.shortening.Shorter.{Shorter}
 use Rattle.mm_minimize.specs.declared.shortening.Shortening.{Shortening}
 use Rattle.mm_render.specs.declared.shorter.Handed.{Handed}
@@ -138,6 +142,17 @@ pub record IsFound (profile : Profile) (files : List PlainFile) (statements : Li
   pub used : AreUsed (sentences (take shorter.index statements)) t new.used
   pub alone : (new.is_duplicate ≡ true)
       ↔ IsByOneAlone (sentences (take shorter.index statements)) (sentence_of shorter.s) t
+
+-- the size of a theorem's own proof, or of a shorter one
+abbrev pub IsSizeOf : OwnProof → Sizes → Type 0
+IsSizeOf proof size = (size.bytes ≡ length proof.text.items) × (size.steps ≡ proof.steps)
+
+-- The search for a shorter proof came to this, where this was found beside the theorem's own one.
+abbrev pub IsSearchedFor : (own : OwnProof) → Option Shorter → Searched → Type 0
+IsSearchedFor own (Some new) (of_search.Shorter old less) =
+    IsSizeOf own old × IsSizeOf new.proof less
+IsSearchedFor own (Some new) other = ⊥
+IsSearchedFor own None searched = searched ≡ NoneShorter
 
 -- ---- duplicates
 

@@ -1,24 +1,25 @@
 -- Where each move stands among the tokens: the code that is sought letter after letter is found
 -- exactly where it ends. Clauses of `move_place` rest on it.
 use Rattle.std.proofs.Common.{◌≡◌, ℕ, zero, suc, ◌+◌, ◌-◌, ◌<◌, ◌≤◌, Bool, true, false, ◌⊎◌, inl}
-use Rattle.std.proofs.Common.{inr, List, [], ◌∷◌, ◌++◌, length, take, drop, get_or, slice_get}
+use Rattle.std.proofs.Common.{inr, List, [], ◌∷◌, ◌++◌, length, take, drop, slice_get}
 use Rattle.std.proofs.Common.{Option, Some, None, Ok, refl, sym, ap, subst, ◌∙◌, arith}
-use Rattle.std.proofs.Common.{append_assoc, lt-ltb, le-ltb, eq-eqb, ne_eqb, flat_map, Bor}
+use Rattle.std.proofs.Common.{append_assoc, lt-ltb, le-ltb, eq-eqb, ne_eqb, flat_map}
 use Rattle.std.proofs.Common.{Contains, length-drop}
 use Rattle.std.specs.List.{drop-map}
 use Rattle.std.proofs.lemmas.Bool.{cases_eq}
-use Rattle.std.proofs.lemmas.List.{length-take, take_rest, length-take-le, length-map}
+use Rattle.std.proofs.lemmas.List.{length-take, length-take-le, length-map}
 use Rattle.std.proofs.lemmas.List.Elements.{Contains-append_right}
 use Rattle.std.proofs.lemmas.Option.{same_Some, none-some, slice_get_within}
+use Rattle.mm_base.specs.declared.token.Token.{Token}
 use Rattle.mm_base.proofs.Lists.{split_at, cons_parts}
 use Rattle.mm_code.specs.declared.code.Code.{Code}
 use Rattle.mm_code.specs.declared.code.Code.TheVariants.{Tag}
-use Rattle.mm_code.specs.Layout.{texts}
 use Rattle.mm_code.specs.Mirror.Reading.{reading, with_prefix, leading_after}
 use Rattle.mm_code.proofs.LetterSteps.{read_below, read_above, read_last, read_leading, read_tag}
 use Rattle.mm_code.proofs.LetterSteps.{read_cut_by_tag, read_end, read_cut_by_end, with_prefix-ok}
 use Rattle.mm_code.proofs.LetterSteps.{not_letter, ends, leading, cut_off, step}
 use Rattle.mm_code.proofs.ReadLetters.{is_read, is_read_again}
+use Rattle.mm_step.specs.Plain.{token_texts}
 use Rattle.mm_places.specs.declared.places.Sought.TheVariants.{At, Behind, Nowhere}
 use Rattle.mm_places.specs.Mirror.CodePlaces.{ended, passed, sought, place_in}
 use Rattle.mm_proof.specs.Tokens.{opening_token, closing_token, IsCompressed}
@@ -553,48 +554,44 @@ module _ (rest : List (List ℕ)) (i : ℕ) (there_is : slice_get rest i ≡ Som
       )
 
 -- the same where the code has looked among the pieces behind that `)`
-module _ (rest pieces : List (Bor (List ℕ))) (i number : ℕ) (behind_it : pieces ≡ drop (i + 1) rest)
-    (there_is : slice_get (texts rest) i ≡ Some closing_token)
-    (first : ¬ (Contains (take i (texts rest)) closing_token)) where
-  same_pieces : texts pieces ≡ drop (i + 1) (texts rest)
-  same_pieces = ap texts behind_it ∙ sym (drop-map (λ t. t.now) (i + 1) rest)
+module _ (rest pieces : List Token) (i number : ℕ) (behind_it : pieces ≡ drop (i + 1) rest)
+    (there_is : slice_get (token_texts rest) i ≡ Some closing_token)
+    (first : ¬ (Contains (take i (token_texts rest)) closing_token)) where
+  same_pieces : token_texts pieces ≡ drop (i + 1) (token_texts rest)
+  same_pieces = ap token_texts behind_it ∙ sym (drop-map (λ t. t.text.now) (i + 1) rest)
 
-  looked : IsCodePlace (drop (i + 1) (texts rest)) number (place_in 0 number false (texts pieces))
-  looked = rw same_pieces (code_found (drop (i + 1) (texts rest)) number)
+  looked : IsCodePlace (drop (i + 1) (token_texts rest)) number
+      (place_in 0 number false (token_texts pieces))
+  looked = rw same_pieces (code_found (drop (i + 1) (token_texts rest)) number)
 
-  pub none_found : None ≡ place_in 0 number false (texts pieces) → (token byte : ℕ)
-      → IsMovePlace (opening_token ∷ texts rest) number token byte → ⊥
+  pub none_found : None ≡ place_in 0 number false (token_texts pieces) → (token byte : ℕ)
+      → IsMovePlace (opening_token ∷ token_texts rest) number token byte → ⊥
   none_found none token byte at =
-      let (piece, is, it) = letters_only (texts rest) i there_is first number token byte at in
+      let (piece, is, it) = letters_only (token_texts rest) i there_is first number token byte at in
       none-some (piece, byte) (none ∙ looked.found piece byte it)
 
-  pub some_found : (piece byte : ℕ) → Some (piece, byte) ≡ place_in 0 number false (texts pieces)
-      → IsMovePlace (opening_token ∷ texts rest) number (i + 2 + piece) byte
+  pub some_found : (piece byte : ℕ)
+      → Some (piece, byte) ≡ place_in 0 number false (token_texts pieces)
+      → IsMovePlace (opening_token ∷ token_texts rest) number (i + 2 + piece) byte
   some_found piece byte is =
-      letters_place (texts rest) i there_is first number piece byte
+      letters_place (token_texts rest) i there_is first number piece byte
       (looked.place piece byte (sym is))
 
-  pub only_found : (piece byte : ℕ) → Some (piece, byte) ≡ place_in 0 number false (texts pieces)
-      → (token b : ℕ) → IsMovePlace (opening_token ∷ texts rest) number token b
+  pub only_found : (piece byte : ℕ)
+      → Some (piece, byte) ≡ place_in 0 number false (token_texts pieces)
+      → (token b : ℕ) → IsMovePlace (opening_token ∷ token_texts rest) number token b
       → ◌≡◌ {A = Option (ℕ × ℕ)} (Some (i + 2 + piece, byte)) (Some (token, b))
   only_found piece byte is token b at =
-      let (p, e, it) = letters_only (texts rest) i there_is first number token b at in
+      let (p, e, it) = letters_only (token_texts rest) i there_is first number token b at in
       let same = same_Some (piece, byte) (p, b) (is ∙ looked.found p b it) in
       let first_same : piece ≡ p = ap (λ (x : ℕ × ℕ). x.0) same in
       let second_same : byte ≡ b = ap (λ (x : ℕ × ℕ). x.1) same in
       rw (e, first_same, second_same) refl
 
-  pub few_pieces : (piece byte : ℕ) → Some (piece, byte) ≡ place_in 0 number false (texts pieces)
+  pub few_pieces : (piece byte : ℕ)
+      → Some (piece, byte) ≡ place_in 0 number false (token_texts pieces)
       → i + 1 + piece < length rest
   few_pieces piece byte is =
       let it = looked.place piece byte (sym is) in
-      let less = slice_get_within (drop (i + 1) (texts rest)) piece it.text it.there in
-      omega (arith, less, length-drop (i + 1) (texts rest), length-map rest (λ t. t.now))
-
--- the tokens of a compressed proof, and those after the `(`
-pub after_opening : (tokens : List (Bor (List ℕ))) (d : Bor (List ℕ)) → 1 ≤ length tokens
-    → (get_or tokens 0 d).now ≡ opening_token
-    → texts tokens ≡ opening_token ∷ texts (take (length tokens - 1) (drop 1 tokens))
-after_opening [] d some is = absurd (omega arith)
-after_opening (t ∷ tokens) d some is =
-    rw (take_rest (t ∷ tokens) 1) (ap (λ (l : List ℕ). l ∷ texts tokens) is)
+      let less = slice_get_within (drop (i + 1) (token_texts rest)) piece it.text it.there in
+      omega (arith, less, length-drop (i + 1) (token_texts rest), length-map rest (λ t. t.text.now))

@@ -20,8 +20,8 @@ use Rattle.mm_frame.specs.Sentence.{Sentence}
 use Rattle.mm_step.specs.Moves.{Move, name}
 use Rattle.mm_proof.specs.Tokens.{Says, SayMoves, IsNormal, IsCompressed, BeginsList, is_unknown}
 use Rattle.mm_proof.specs.Tokens.{is_question, opening_token, closing_token}
-use Rattle.mm_proof.specs.KnownPrefix.{token_of, known_piece, known_tokens, known_text}
-use Rattle.mm_proof.specs.KnownPrefix.{known_prefix, begins_list, ends_list}
+use Rattle.mm_proof.specs.CheckedPrefix.{token_of, known_piece, known_tokens, known_text}
+use Rattle.mm_proof.specs.CheckedPrefix.{checked_prefix, begins_list, ends_list}
 use Rattle.mm_places.specs.Places.{EndsCode, IsMovePlace}
 use Rattle.mm_proof.proofs.Members.{contains_cases}
 use Rattle.mm_proof.proofs.ProofTokens.CodeLetters.{piece_letters}
@@ -361,7 +361,7 @@ none_known number token byte (inr (labels, letters, c, piece, is, it)) =
 
 -- a move of the known prefix stands where it does in the whole
 pub known_place : (tokens : List (List ℕ)) (number token byte : ℕ)
-    → IsMovePlace (known_prefix tokens) number token byte → IsMovePlace tokens number token byte
+    → IsMovePlace (checked_prefix tokens) number token byte → IsMovePlace tokens number token byte
 known_place tokens number token byte =
     by (begins_list tokens) (ends_list (known_tokens tokens)) refl refl
   where

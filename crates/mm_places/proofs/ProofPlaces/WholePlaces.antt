@@ -36,8 +36,8 @@ use Rattle.mm_step.specs.declared.profile.Profile.{Profile}
 use Rattle.mm_step.specs.Plain.{token_texts}
 use Rattle.mm_proof.specs.Tokens.{IsCompressed, AreLabels, opening_token, closing_token}
 use Rattle.mm_proof.specs.Tokens.{is_question, is_unknown, BeginsList}
-use Rattle.mm_proof.specs.KnownPrefix.{token_of, known_piece, known_tokens, known_text}
-use Rattle.mm_proof.specs.KnownPrefix.{known_prefix, begins_list, ends_list}
+use Rattle.mm_proof.specs.CheckedPrefix.{token_of, known_piece, known_tokens, known_text}
+use Rattle.mm_proof.specs.CheckedPrefix.{checked_prefix, begins_list, ends_list}
 use Rattle.mm_proof.specs.Parsed.{OfProof}
 use Rattle.mm_places.specs.Places.{IsMovePlace}
 use Rattle.mm_proof.specs.Proof.{BreaksWhole}
@@ -513,7 +513,7 @@ piece_begins (Some token) k text there = go (before_first is_question token) k r
     go (b ∷ front) (suc k) is at = absurd (none-some text at)
 
 pub prefix_in_tokens : (tokens : List (List ℕ)) (index : ℕ) (text : List ℕ)
-    → slice_get (known_prefix tokens) index ≡ Some text
+    → slice_get (checked_prefix tokens) index ≡ Some text
     → (whole : List ℕ) × (slice_get tokens index ≡ Some whole) × (length text ≤ length whole)
 prefix_in_tokens tokens index text = by (begins_list tokens) (ends_list (known_tokens tokens))
   where
@@ -603,7 +603,7 @@ module _ (st : List Sentence) (id own : ℕ) (t : Sentence) (number : IsNumbered
 
 -- a place in the known prefix is in one of the tokens
 pub place_back : (tokens : List (List ℕ)) (token byte : ℕ)
-    → (text : List ℕ) × (slice_get (known_prefix tokens) token ≡ Some text)
+    → (text : List ℕ) × (slice_get (checked_prefix tokens) token ≡ Some text)
     × (byte ≤ length text)
     → (text : List ℕ) × (slice_get tokens token ≡ Some text) × (byte ≤ length text)
 place_back tokens token byte (text, there, within) =

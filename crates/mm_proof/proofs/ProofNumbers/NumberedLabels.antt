@@ -19,7 +19,7 @@ use Rattle.mm_step.specs.Proof.{IsWithin}
 use Rattle.mm_proof.specs.Verified.{OfMoves, ProvesUsingNumbers, TokensProve}
 use Rattle.mm_proof.specs.Parsed.{OfProof, SaySteps}
 use Rattle.mm_step.specs.declared.profile.Profile.{Profile}
-use Rattle.mm_proof.specs.KnownPrefix.{Pass, AreAllowed}
+use Rattle.mm_proof.specs.CheckedPrefix.{Pass, AreAllowed}
 use Rattle.mm_proof.specs.Strict.{HasFormOf}
 use Rattle.mm_proof.specs.UnderProfile.{HaveFirstFault}
 use Rattle.mm_step.proofs.ByNumbers.OneIndex.{one_index}

@@ -13,9 +13,9 @@ use Rattle.mm_base.specs.declared.token.Token.{Token}
 use Rattle.mm_step.specs.Plain.{token_texts}
 use Rattle.mm_proof.specs.Tokens.{is_question, is_unknown, opening_token, closing_token}
 use Rattle.mm_proof.specs.Tokens.{IsIncomplete, IsCompressed, AreLabels, SayMoves}
-use Rattle.mm_proof.specs.KnownPrefix.{token_of, known_piece, known_tokens, known_text}
-use Rattle.mm_proof.specs.KnownPrefix.{known_prefix}
-use Rattle.mm_proof.specs.KnownPrefix.{begins_list, ends_list}
+use Rattle.mm_proof.specs.CheckedPrefix.{token_of, known_piece, known_tokens, known_text}
+use Rattle.mm_proof.specs.CheckedPrefix.{checked_prefix}
+use Rattle.mm_proof.specs.CheckedPrefix.{begins_list, ends_list}
 use Rattle.mm_proof.proofs.ProofTokens.ProofLabels.{text_at, prefix_all}
 use Rattle.mm_base.proofs.Lists.{any_found}
 use Rattle.std.proofs.lemmas.List.Elements.{Contains-append_left, Contains-append_right}
@@ -54,7 +54,7 @@ cut_room (t ∷ tokens) zero =
 cut_room (t ∷ tokens) (suc n) =
     omega (arith, cut_room tokens n, sum_by-append length (t ∷ []) tokens, sum_by-append length (t ∷ []) (take n tokens ++ known_piece (slice_get tokens n)))
 
-pub prefix_room : (tokens : List (List ℕ)) → sum_by length (known_prefix tokens) ≤ sum_by length tokens
+pub prefix_room : (tokens : List (List ℕ)) → sum_by length (checked_prefix tokens) ≤ sum_by length tokens
 prefix_room tokens = by (begins_list tokens) (ends_list (known_tokens tokens))
   where
     by : (begun ended : Bool) → sum_by length (if begun then (if ended then known_text tokens else []) else known_tokens tokens) ≤ sum_by length tokens

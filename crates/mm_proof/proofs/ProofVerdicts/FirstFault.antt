@@ -48,7 +48,7 @@ use Rattle.mm_step.proofs.ProofSteps.Replacements.{meets_of}
 use Rattle.std.proofs.lemmas.List.Sums.{sum_by-append}
 use Rattle.mm_step.specs.declared.profile.Profile.{Profile}
 use Rattle.mm_proof.specs.Tokens.{SayMoves}
-use Rattle.mm_proof.specs.KnownPrefix.{Pass}
+use Rattle.mm_proof.specs.CheckedPrefix.{Pass}
 use Rattle.mm_proof.specs.Strict.{HasFormOf, IsTextFault}
 use Rattle.mm_proof.specs.UnderProfile.{HaveFirstFault, HasNoFault, IsOneFault}
 use Rattle.mm_step.proofs.ProofSteps.FirstAtStep.{FirstAtStep, below, below_P8, limit_first, step_of_hypothesis}

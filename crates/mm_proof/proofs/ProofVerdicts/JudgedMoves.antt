@@ -50,7 +50,7 @@ use Rattle.mm_proof.proofs.ProofNumbers.NumberedLabels.{one_move}
 use Rattle.mm_proof.proofs.ProofNumbers.UsedAssertions.{used_numbers}
 use Rattle.mm_step.proofs.ProofSteps.Derivations.{zip_once}
 use Rattle.mm_step.specs.declared.fault.ProofFault.TheVariants as faults
-use Rattle.mm_proof.specs.KnownPrefix.{Pass}
+use Rattle.mm_proof.specs.CheckedPrefix.{Pass}
 use Rattle.mm_step.proofs.ByNumbers.NamedEntries.{named_push}
 
 -- ==== the moves of a proof, one after the other

@@ -11,7 +11,7 @@ use Rattle.mm_step.specs.Proof.{IsWithin}
 use Rattle.mm_proof.specs.Proof.{IsProvedWithin, IsWhole, Prove, IsMovesFault}
 use Rattle.mm_proof.specs.Proof.{IsMoveFault, BreaksWhole}
 use Rattle.mm_step.specs.Profiles.{limit_of}
-use Rattle.mm_proof.specs.KnownPrefix.{known_prefix, Pass}
+use Rattle.mm_proof.specs.CheckedPrefix.{checked_prefix, Pass}
 use Rattle.mm_proof.specs.Strict.{HasFormOf, IsStrictList, MarkAssertions, IsStrict}
 use Rattle.mm_proof.specs.UnderProfile.{IsProvedUnder, IsFaultUnder, HaveFaultUnder}
 use Rattle.mm_proof.specs.UnderProfile.{OneVerdictUnder, OnePrefixVerdictUnder}
@@ -252,7 +252,7 @@ one_verdict_under_holds profile before s tokens all formed = (
 pub one_prefix_verdict_under_holds : OnePrefixVerdictUnder
 one_prefix_verdict_under_holds profile before s tokens all formed = (
   elim (tokens_verdict (Pass (IsWithin (limit_of profile)) before)
-      (IsMoveFault (IsWithin (limit_of profile)) before) profile before s (known_prefix tokens)
+      (IsMoveFault (IsWithin (limit_of profile)) before) profile before s (checked_prefix tokens)
       formed (λ moves usable. passed_or_stopped (IsWithin (limit_of profile)) before s moves all
       (moves_verdict (IsWithin (limit_of profile)) (within_dec (limit_of profile)) before s moves
       all usable))) [
@@ -260,6 +260,6 @@ one_prefix_verdict_under_holds profile before s tokens all formed = (
             inl (form, record { whole = whole; moves = moves; said = said; pass = pass })
         | inr fault ↦ inr fault
       ],
-  (allowed_excludes profile before s (known_prefix tokens) all).0,
-  (allowed_excludes profile before s (known_prefix tokens) all).1,
+  (allowed_excludes profile before s (checked_prefix tokens) all).0,
+  (allowed_excludes profile before s (checked_prefix tokens) all).1,
 )

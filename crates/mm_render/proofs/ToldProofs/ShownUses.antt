@@ -2,8 +2,9 @@
 use Rattle.std.proofs.Common.{◌≡◌, ℕ, zero, suc, ◌+◌, ◌<◌, List, [], ◌∷◌, ◌++◌, take, length, cond}
 use Rattle.std.proofs.Common.{get_or, slice_get, codes, decimal, Some, Bool, true, false, sym, ap}
 use Rattle.std.proofs.Common.{◌∙◌}
-use Rattle.std.proofs.Common.{arith, append_assoc, append-nil, replicate, refl}
-use Rattle.std.proofs.lemmas.List.{take_more, replicate_more, length-replicate}
+use Rattle.std.proofs.Common.{arith, append_assoc, append-nil, replicate, refl, subst}
+use Rattle.std.proofs.lemmas.List.{take_more, replicate_more, length-replicate, get_or-replicate}
+use Rattle.std.proofs.lemmas.Option.{slice_get_within}
 use Rattle.std.proofs.lemmas.Grind.{flat_map-append}
 use Rattle.mm_frame.specs.Sentence.{Sentence}
 use Rattle.mm_frame.specs.Numbers.{symbols_of}
@@ -11,7 +12,9 @@ use Rattle.mm_step.specs.Stores.{numbers_in}
 use Rattle.mm_listing.specs.declared.lines.Line.{Line}
 use Rattle.mm_step.specs.Moves.{Move}
 use Rattle.mm_proof.specs.Verified.{OfMoves}
-use Rattle.mm_listing.specs.Listing.{ListedStep, TellsStep}
+use Rattle.mm_listing.specs.Listing.{ListedStep, TellsStep, TellsStepWith, TellSteps, AreLinesWith}
+use Rattle.mm_listing.specs.Uses.{AreUses, IsRoot}
+use Rattle.mm_base.proofs.Lists.{get_within}
 use Rattle.mm_base.specs.Statement.{PlainStatement}
 use Rattle.mm_rules.specs.Answer.{labels_at}
 use Rattle.mm_rules.specs.Verdict.{sentences}
@@ -57,6 +60,29 @@ used_told statements line step number used o₀ o₁ o₂ o₃ o₄ o₅ o₆ o�
     rw (h₇, h₆, h₅, h₄, h₃, h₂, h₁, symbols) (simp append_assoc)
 
 -- ---- all lines
+
+-- the step that a line tells with its expression
+pub step_told : (statements : List Sentence) (expressed : ℕ → Bool) (lines : List Line)
+    (steps : List ListedStep) (at : ℕ) (line : Line) → TellSteps statements expressed lines steps
+    → slice_get lines at ≡ Some line → expressed at ≡ true
+    → (step : ListedStep) × (slice_get steps at ≡ Some step) × TellsStep statements line step
+step_told statements expressed lines steps at line told there flag =
+    let within = slice_get_within lines at line there in
+    let s = get_within steps at (omega (arith, within, told.count)) in
+    (s.0, s.1, subst (λ b. TellsStepWith statements b line s.0) flag (told.each at line s.0 there s.1))
+
+-- where all steps have their expressions, so have those whose flags are set
+pub all_flags_told : (statements : List Sentence) (lines : List Line) (steps : List ListedStep)
+    (n : ℕ) → TellSteps statements (λ step. true) lines steps → length lines ≡ n
+    → TellSteps statements (λ index. get_or (replicate n true) index false) lines steps
+all_flags_told statements lines steps n told long = record {
+  count = told.count;
+  each = λ index line step there here.
+      let within = slice_get_within lines index line there in
+      subst (λ b. TellsStepWith statements b line step)
+      (sym (get_or-replicate n index true false (omega (arith, within, long))))
+      (told.each index line step there here);
+}
 
 -- one step more
 one_more_step : (steps : List ListedStep) (rows : List (List ℕ)) (told : List Bool) (n at : ℕ)
@@ -116,6 +142,29 @@ told_long false root rows told is = ap length is ∙ length-replicate (length ro
 told_long true root rows told is = is.count
 
 -- ---- the proof of a theorem
+
+-- what the lines say of the moves
+pub uses_told : (essential : Bool) (statements before : List Sentence)
+    (moves : List (Move (List ℕ))) (lines : List Line) (rows : List (List ℕ)) (root : ℕ)
+    (told : List Bool) (text : List ℕ)
+    → AreLinesWith statements before moves (λ index. get_or told index false) lines
+    → AreUses essential before moves rows → IsRoot moves root → AreTold essential root rows told
+    → ((steps : List ListedStep)
+    → TellSteps statements (λ index. get_or told index false) lines steps
+    → text ≡ used_steps_text 1 steps rows told)
+    → IsUsesTextOf essential before moves text
+uses_told essential statements before moves lines rows root told text listed used rooted chosen laid =
+    record {
+      steps = listed.0;
+      listed = listed.1;
+      rows = rows;
+      used = used;
+      root = root;
+      rooted = rooted;
+      told = told;
+      chosen = chosen;
+      laid = laid listed.0 listed.2;
+    }
 
 -- what is told of the moves is told of the theorem's tokens
 pub uses_shown : (essential : Bool) (ss : List Sentence) (statements : List PlainStatement)

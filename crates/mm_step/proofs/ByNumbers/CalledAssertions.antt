@@ -24,11 +24,11 @@ use Rattle.mm_frame.specs.Taken.{kind_behind}
 use Rattle.mm_step.specs.Plain.{ids_in, label_ids}
 use Rattle.mm_step.specs.Mirror.CodeSteps.{MayBeUsed}
 use Rattle.mm_step.specs.Mirror.CodeRun.{DoRise, MayBeMade, AreMarked, AreNamedNumbers}
-use Rattle.mm_frame.specs.declared.scheme.Scheme.{Scheme}
+use Rattle.mm_frame.specs.declared.signature.Signature.{Signature}
 use Rattle.mm_frame.specs.FrameIndex.{AreHypotheses, HaveTypings, ArePairs}
 use Rattle.mm_frame.specs.Pieces.{variables_of, AreItsPieces, HavePatterns, HaveIndices}
 use Rattle.mm_step.specs.Mirror.CodeVerify.{pairs_in}
-use Rattle.mm_step.specs.Mirror.CodeApply.{IsEarlierScheme, IsCallOf, IsOfAssertion, MayBeCalled}
+use Rattle.mm_step.specs.Mirror.CodeApply.{IsEarlierSignature, IsCallOf, IsOfAssertion, MayBeCalled}
 use Rattle.mm_step.specs.declared.call.Call.{Call}
 use Rattle.std.proofs.lemmas.Bool.{false≢true, cases_lt}
 use Rattle.mm_frame.specs.declared.number.LabelKind.TheVariants as label_kinds
@@ -100,13 +100,13 @@ same_numbers ids sorted keeps only n = (number_kept sorted ids n only, number_ke
 
 -- ==== what a label of a proof stands for, from what its frame answers
 
-pub scheme_of : (own st : List Sentence) (index id at : ℕ) (s t : Sentence) (scheme : Scheme) → own ≡ st → IsNumbered st id at s → IsAssertion s.kind → at < index
-    → AreHypotheses (record { statements = own; index = at }) (label_ids scheme.hypotheses.now) → HaveTypings own scheme.hypotheses.now
-    → ArePairs (record { statements = own; index = at }) (pairs_in scheme.pairs.now) → HaveIndices (variables_of scheme.hypotheses.now) scheme.pairs.now
-    → slice_get own at ≡ Some t → AreItsPieces own (variables_of scheme.hypotheses.now) t scheme.conclusion.now
-    → HavePatterns own (variables_of scheme.hypotheses.now) scheme.pieces.now scheme.hypotheses.now → IsEarlierScheme st index id scheme
-scheme_of own st index id at s t scheme same numbered kind before hypotheses typed pairs indexed there concluded patterned =
-    let vs = variables_of scheme.hypotheses.now in
+pub signature_of : (own st : List Sentence) (index id at : ℕ) (s t : Sentence) (signature : Signature) → own ≡ st → IsNumbered st id at s → IsAssertion s.kind → at < index
+    → AreHypotheses (record { statements = own; index = at }) (label_ids signature.hypotheses.now) → HaveTypings own signature.hypotheses.now
+    → ArePairs (record { statements = own; index = at }) (pairs_in signature.pairs.now) → HaveIndices (variables_of signature.hypotheses.now) signature.pairs.now
+    → slice_get own at ≡ Some t → AreItsPieces own (variables_of signature.hypotheses.now) t signature.conclusion.now
+    → HavePatterns own (variables_of signature.hypotheses.now) signature.pieces.now signature.hypotheses.now → IsEarlierSignature st index id signature
+signature_of own st index id at s t signature same numbered kind before hypotheses typed pairs indexed there concluded patterned =
+    let vs = variables_of signature.hypotheses.now in
     let is : t ≡ s = same_Some t s (sym there ∙ subst (λ (l : List Sentence). slice_get l at ≡ Some s) (sym same) numbered.there) in
     record {
       at = at;
@@ -114,26 +114,26 @@ scheme_of own st index id at s t scheme same numbered kind before hypotheses typ
       numbered = numbered;
       kind = kind;
       before = before;
-      hypotheses = subst (λ (l : List Sentence). AreHypotheses (record { statements = l; index = at }) (label_ids scheme.hypotheses.now)) same hypotheses;
-      typed = subst (λ (l : List Sentence). HaveTypings l scheme.hypotheses.now) same typed;
-      pairs = subst (λ (l : List Sentence). ArePairs (record { statements = l; index = at }) (pairs_in scheme.pairs.now)) same pairs;
+      hypotheses = subst (λ (l : List Sentence). AreHypotheses (record { statements = l; index = at }) (label_ids signature.hypotheses.now)) same hypotheses;
+      typed = subst (λ (l : List Sentence). HaveTypings l signature.hypotheses.now) same typed;
+      pairs = subst (λ (l : List Sentence). ArePairs (record { statements = l; index = at }) (pairs_in signature.pairs.now)) same pairs;
       indexed = indexed;
-      concluded = subst (λ (l : List Sentence). AreItsPieces l vs s scheme.conclusion.now) same (subst (λ (g : Sentence). AreItsPieces own vs g scheme.conclusion.now) is concluded);
-      patterned = subst (λ (l : List Sentence). HavePatterns l vs scheme.pieces.now scheme.hypotheses.now) same patterned;
+      concluded = subst (λ (l : List Sentence). AreItsPieces l vs s signature.conclusion.now) same (subst (λ (g : Sentence). AreItsPieces own vs g signature.conclusion.now) is concluded);
+      patterned = subst (λ (l : List Sentence). HavePatterns l vs signature.pieces.now signature.hypotheses.now) same patterned;
     }
 
 -- ---- whether it is an assertion
 
 pub called_assertion : (st : List Sentence) (at id : ℕ) (call : Call) → IsCallOf st at id call → IsOfAssertion call → IsAssertionNumber st id
 called_assertion st at id (call_kinds.Hypothesis symbols) of is = absurd is
-called_assertion st at id (call_kinds.Assertion scheme) of is = (of.at, of.s, of.numbered, of.kind)
+called_assertion st at id (call_kinds.Assertion signature) of is = (of.at, of.s, of.numbered, of.kind)
 
 pub assertion_called : (st : List Sentence) (at id : ℕ) (call : Call) → IsCallOf st at id call → IsAssertionNumber st id → IsOfAssertion call
 assertion_called st at id (call_kinds.Hypothesis symbols) of h =
     let used = of.1 in
     let same : used.s ≡ h.1 = same_Some used.s h.1 (sym (numbered_get st id used.at used.s used.numbered) ∙ numbered_get st id h.0 h.1 h.2) in
     not_both_kinds h.1.kind (subst (λ (s : Sentence). IsHypothesis s.kind) same of.2) h.3
-assertion_called st at id (call_kinds.Assertion scheme) of h = tt
+assertion_called st at id (call_kinds.Assertion signature) of h = tt
 
 -- ---- marks
 

@@ -17,7 +17,7 @@ use Rattle.mm_frame.specs.Numbers.{symbols_of}
 use Rattle.mm_frame.specs.Laws.{OneNumber}
 use Rattle.mm_step.specs.Stores.{numbers_in}
 use Rattle.mm_step.specs.Mirror.CodeVerify.{name_at, names_at, IsSymbol, AreDeclaredSymbols}
-use Rattle.mm_step.specs.Mirror.CodeVerify.{AreBelow, IsApartFromEach, AreStackEntries, value_of}
+use Rattle.mm_step.specs.Mirror.CodeVerify.{AreBelow, IsDisjointFromEach, AreStackEntries, value_of}
 use Rattle.mm_step.specs.Mirror.CodeVerify.{EachValues, SomeValues, pairs_in}
 use Rattle.std.proofs.lemmas.Option.{same_Some, slice_get-map, slice_get-get_or}
 use Rattle.mm_frame.specs.Frame.{IsDistinct}
@@ -122,7 +122,7 @@ apart_told V D true to from v = λ w. to refl
 apart_told V D false to from v = λ f. false≢true (from (f v))
 
 -- each of the one is apart from each of the other: the expressions are distinct
-pub distinct_told : (st : List Sentence) (index : ℕ) (e f : List ℕ) → ((k : ℕ) → k < length e → IsApartFromEach st index f (get_or e k 0)) → AreDistinct (take index st) (names_at st e) (names_at st f)
+pub distinct_told : (st : List Sentence) (index : ℕ) (e f : List ℕ) → ((k : ℕ) → k < length e → IsDisjointFromEach st index f (get_or e k 0)) → AreDistinct (take index st) (names_at st e) (names_at st f)
 distinct_told st index e f each u v var_u var_v in_e in_f =
     let i = has_named st e u in_e in
     let j = has_named st f v in_f in
@@ -131,7 +131,7 @@ distinct_told st index e f each u v var_u var_v in_e in_f =
 
 -- one that isn't: they aren't
 pub near_told : (st : List Sentence) (index : ℕ) (e f : List ℕ) (k : ℕ) → AllMeant st → AreDeclaredSymbols st (take index st) e → AreDeclaredSymbols st (take index st) f → k < length e
-    → ¬ (IsApartFromEach st index f (get_or e k 0)) → ¬ (AreDistinct (take index st) (names_at st e) (names_at st f))
+    → ¬ (IsDisjointFromEach st index f (get_or e k 0)) → ¬ (AreDistinct (take index st) (names_at st e) (names_at st f))
 near_told st index e f k all se sf less near distinct =
     near (λ var_u j in_f var_v.
     decided (distinct_dec (take index st) (name_at st (get_or e k 0)) (name_at st (get_or f j 0)))

@@ -16,7 +16,7 @@ use Rattle.mm_frame.specs.Numbers.{symbols_of, IsNumbered, IsNumberOf, AreNumber
 use Rattle.mm_frame.specs.FrameIndex.{ArePairs}
 use Rattle.mm_frame.specs.Pieces.{variables_of}
 use Rattle.mm_frame.specs.declared.piece.Piece.{Piece}
-use Rattle.mm_frame.specs.declared.scheme.Scheme.{Scheme}
+use Rattle.mm_frame.specs.declared.signature.Signature.{Signature}
 use Rattle.mm_frame.specs.Taken.{kind_behind}
 use Rattle.mm_frame.specs.declared.number.LabelKind.{LabelKind}
 use Rattle.mm_frame.specs.Laws.{OneNumber}
@@ -37,7 +37,7 @@ use Rattle.mm_step.specs.Mirror.CodeVerify.{SomePairValues, Replaces, AreVariabl
 use Rattle.mm_step.specs.Plain.{label_ids}
 use Rattle.mm_step.specs.Mirror.CodeSteps.{MayBeUsed}
 use Rattle.mm_step.specs.Mirror.CodeRun.{CarriesOn, StopsAt}
-use Rattle.mm_step.specs.Mirror.CodeApply.{IsAppliedAssertion, IsMatched, IsReady, IsEarlierScheme}
+use Rattle.mm_step.specs.Mirror.CodeApply.{IsAppliedAssertion, IsMatched, IsReady, IsEarlierSignature}
 use Rattle.mm_base.proofs.Lists.{get_take, get_from_take, all_weaker, all_append, all_prefix}
 use Rattle.mm_base.proofs.Lists.{all_back, all_push, zip_length}
 use Rattle.mm_step.proofs.ProofSteps.OneStep.{StepTo, not_both_kinds}
@@ -359,9 +359,9 @@ made_entries st index id at stack base vs conclusion made all ready as_many is e
 
 -- ---- what the frame tells
 
--- the assertion of a scheme is the one with the number
-pub called_of : (st : List Sentence) (index id : ℕ) (scheme : Scheme) → (is : IsEarlierScheme st index id scheme) → IsAppliedAssertion st index id is.at (label_ids scheme.hypotheses.now) is.hypotheses.hypotheses
-called_of st index id scheme is = record {
+-- the assertion of a signature is the one with the number
+pub called_of : (st : List Sentence) (index id : ℕ) (signature : Signature) → (is : IsEarlierSignature st index id signature) → IsAppliedAssertion st index id is.at (label_ids signature.hypotheses.now) is.hypotheses.hypotheses
+called_of st index id signature is = record {
   s = is.s;
   numbered = is.numbered;
   kind = is.kind;
@@ -370,16 +370,16 @@ called_of st index id scheme is = record {
   known = is.hypotheses.numbered;
 }
 
-pub ready_of : (st : List Sentence) (index id : ℕ) (scheme : Scheme) (entries : List (List ℕ)) → (is : IsEarlierScheme st index id scheme)
-    → IsMatched st index is.hypotheses.hypotheses (variables_of scheme.hypotheses.now) entries (pairs_in scheme.pairs.now)
-    → IsReady st index id is.at (variables_of scheme.hypotheses.now) entries scheme.conclusion.now
+pub ready_of : (st : List Sentence) (index id : ℕ) (signature : Signature) (entries : List (List ℕ)) → (is : IsEarlierSignature st index id signature)
+    → IsMatched st index is.hypotheses.hypotheses (variables_of signature.hypotheses.now) entries (pairs_in signature.pairs.now)
+    → IsReady st index id is.at (variables_of signature.hypotheses.now) entries signature.conclusion.now
 unfolding called_of
-ready_of st index id scheme entries is matched = record {
-  ids = label_ids scheme.hypotheses.now;
+ready_of st index id signature entries is matched = record {
+  ids = label_ids signature.hypotheses.now;
   hs = is.hypotheses.hypotheses;
-  pairs = pairs_in scheme.pairs.now;
-  called = called_of st index id scheme is;
-  typed = typed_variables st scheme.hypotheses.now is.hypotheses.hypotheses is.typed is.hypotheses.numbered;
+  pairs = pairs_in signature.pairs.now;
+  called = called_of st index id signature is;
+  typed = typed_variables st signature.hypotheses.now is.hypotheses.hypotheses is.typed is.hypotheses.numbered;
   mandatory = is.pairs;
   matched = matched;
   concluded = is.concluded;

@@ -6,7 +6,7 @@ use Rattle.mm_frame.specs.Numbers.{IsNumbered, AreNumbers}
 use Rattle.mm_frame.specs.FrameIndex.{ArePairs, AreHypotheses, HaveTypings}
 use Rattle.mm_frame.specs.Pieces.{variables_of, AreItsPieces, HavePatterns, HaveIndices}
 use Rattle.mm_frame.specs.declared.piece.Piece.{Piece}
-use Rattle.mm_frame.specs.declared.scheme.Scheme.{Scheme}
+use Rattle.mm_frame.specs.declared.signature.Signature.{Signature}
 use Rattle.mm_step.specs.declared.call.Call.{Call}
 use Rattle.mm_step.specs.declared.call.Call.TheVariants as calls
 use Rattle.mm_step.specs.Stores.{numbers_in}
@@ -50,35 +50,35 @@ pub record IsReady (statements : List Sentence) (index id at : ℕ) (variables :
   pub matched : IsMatched statements index hs variables entries pairs
   pub concluded : AreItsPieces statements variables called.s conclusion
 
--- the scheme is that of the assertion with the number, which stands before the index
-pub record IsEarlierScheme (statements : List Sentence) (index id : ℕ)
-    (scheme : Scheme) : Type 0 where
+-- the signature is that of the assertion with the number, which stands before the index
+pub record IsEarlierSignature (statements : List Sentence) (index id : ℕ)
+    (signature : Signature) : Type 0 where
   pub at : ℕ
   pub s : Sentence
   pub numbered : IsNumbered statements id at s
   pub kind : IsAssertion s.kind
   pub before : at < index
   pub hypotheses : AreHypotheses (record { statements = statements; index = at })
-      (label_ids scheme.hypotheses.now)
-  pub typed : HaveTypings statements scheme.hypotheses.now
-  pub pairs : ArePairs (record { statements = statements; index = at }) (pairs_in scheme.pairs.now)
-  pub indexed : HaveIndices (variables_of scheme.hypotheses.now) scheme.pairs.now
-  pub concluded : AreItsPieces statements (variables_of scheme.hypotheses.now) s
-      scheme.conclusion.now
-  pub patterned : HavePatterns statements (variables_of scheme.hypotheses.now) scheme.pieces.now
-      scheme.hypotheses.now
+      (label_ids signature.hypotheses.now)
+  pub typed : HaveTypings statements signature.hypotheses.now
+  pub pairs : ArePairs (record { statements = statements; index = at }) (pairs_in signature.pairs.now)
+  pub indexed : HaveIndices (variables_of signature.hypotheses.now) signature.pairs.now
+  pub concluded : AreItsPieces statements (variables_of signature.hypotheses.now) s
+      signature.conclusion.now
+  pub patterned : HavePatterns statements (variables_of signature.hypotheses.now) signature.pieces.now
+      signature.hypotheses.now
 
 -- the call is of an assertion
 abbrev pub IsOfAssertion : Call → Type 0
 IsOfAssertion (calls.Hypothesis symbols) = ⊥
-IsOfAssertion (calls.Assertion scheme) = Unit {0}
+IsOfAssertion (calls.Assertion signature) = Unit {0}
 
 -- the call is what the label with the number stands for in a proof at the index
 abbrev pub IsCallOf : List Sentence → (index id : ℕ) → Call → Type 0
 IsCallOf statements index id (calls.Hypothesis symbols) =
     (label : List ℕ) × (used : MayBeUsed statements index label id)
     × IsHypothesis used.s.kind × AreNumbers statements (numbers_in symbols.now) used.s.symbols
-IsCallOf statements index id (calls.Assertion scheme) = IsEarlierScheme statements index id scheme
+IsCallOf statements index id (calls.Assertion signature) = IsEarlierSignature statements index id signature
 
 -- it is, if the label may be used there
 abbrev pub MayBeCalled : List Sentence → (index id : ℕ) → Call → Type 0

@@ -101,16 +101,16 @@ Replaces statements σ variables entries =
     → σ (name_at statements n) ≡ option_map (names_at statements) (value_of variables entries n)
 
 -- if the second is a variable, both are an active pair at the index
-abbrev pub IsApart : List Sentence → ℕ → ℕ → ℕ → Type 0
-IsApart statements index m n =
+abbrev pub IsDisjoint : List Sentence → ℕ → ℕ → ℕ → Type 0
+IsDisjoint statements index m n =
     IsVariable statements (name_at statements n)
     → IsDistinct (take index statements) (name_at statements m) (name_at statements n)
 
 -- if the symbol is a variable, it and each variable of these are
-abbrev pub IsApartFromEach : List Sentence → ℕ → List ℕ → ℕ → Type 0
-IsApartFromEach statements index ns m =
+abbrev pub IsDisjointFromEach : List Sentence → ℕ → List ℕ → ℕ → Type 0
+IsDisjointFromEach statements index ns m =
     IsVariable statements (name_at statements m) → (k : ℕ) → k < length ns
-    → IsApart statements index m (slice_index_or ns k 0)
+    → IsDisjoint statements index m (slice_index_or ns k 0)
 
 -- what replaces two symbols, if something does, is so
 abbrev pub EachValues : (ℕ → Option (List ℕ)) → ℕ → ℕ → (List ℕ → List ℕ → Type 0) → Type 0

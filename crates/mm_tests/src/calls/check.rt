@@ -347,7 +347,7 @@ fn statuses_and_rules_have_names(rt: HostRuntime) {
 fn writes_what_a_theorem_rests_on(rt: HostRuntime) -> Result<(), Fail> {
     let command = Command::About {
         label: b"th",
-        question: Question::Axioms,
+        question: Question::Axioms { essential: false },
     };
     let answer = (Status::Done, b"tze\ntpl\n".as_slice());
     assert!(rt; replies_of_first(rt.alloc(), &command, answer)?);
@@ -369,7 +369,7 @@ fn writes_how_a_theorem_is_proved(rt: HostRuntime) -> Result<(), Fail> {
 fn writes_why_a_question_has_no_answer(rt: HostRuntime) -> Result<(), Fail> {
     let command = Command::About {
         label: b"tt",
-        question: Question::Axioms,
+        question: Question::Axioms { essential: false },
     };
     let answer = (Status::Refused, b"ask A2 tt\n".as_slice());
     assert!(rt; replies_of_first(rt.alloc(), &command, answer)?);

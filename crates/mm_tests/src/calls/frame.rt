@@ -8,7 +8,7 @@ mod growths;
 mod guessed;
 mod questions;
 mod refused;
-mod schemes;
+mod signatures;
 mod taking;
 
 use crate::calls::frame::taking::{book_of, empty_book};

@@ -6,7 +6,7 @@
 //! each of them with each of its requests for memory refused, one alone, in turn.
 
 use crate::calls::code::{CODES, LETTERS};
-use crate::calls::load::{HOLLOW, failing_reader};
+use crate::calls::load::{STRIPPED, failing_reader};
 use crate::databases::{DEMO, DEMO_COMPRESSED, DEMO_SMALL};
 use crate::tests::{CHECK, asks_handed};
 use mm_axioms::{all_users, axioms, direct_users};
@@ -20,7 +20,7 @@ use mm_render::{
 use mm_rules::{AskFault, CheckFault, Status};
 use mm_save::{saved, saved_all};
 use mm_step::Profile;
-use mm_text::{Counted, HollowBytes, LoadFault, Statements, TextFault, read_all, read_hollow};
+use mm_text::{Counted, LoadFault, Statements, StrippedBytes, TextFault, read_all, read_stripped};
 use mm_verdict::{Checked, Form, check};
 use std::alloc::Global;
 use std::test::Fail;
@@ -74,21 +74,21 @@ fn growths_of_read_all(rt: HostRuntime) -> Result<(), Fail> {
 
 /// The bytes of a text, which come one by one, without what its comments say: read once more where
 /// memory ran out the first time.
-fn read_hollow_on(alloc: Global, text: &'static [u8]) -> Result<HollowBytes, Fail> {
-    match read_hollow(alloc, &mut failing_reader(text, 0), text.len()) {
+fn read_stripped_on(alloc: Global, text: &'static [u8]) -> Result<StrippedBytes, Fail> {
+    match read_stripped(alloc, &mut failing_reader(text, 0), text.len()) {
         Err(LoadFault::Memory) => {
-            once_more(read_hollow(alloc, &mut failing_reader(text, 0), text.len()))
+            once_more(read_stripped(alloc, &mut failing_reader(text, 0), text.len()))
         }
         answer => Ok(answer?),
     }
 }
 
 #[test]
-fn growths_of_read_hollow(rt: HostRuntime) -> Result<(), Fail> {
-    for (text, hollow) in HOLLOW {
-        let read = read_hollow_on(rt.alloc(), text)?;
-        let is_same = read.bytes.as_slice() == hollow && read.count == text.len();
-        expect(is_same, "other hollow bytes")?;
+fn growths_of_read_stripped(rt: HostRuntime) -> Result<(), Fail> {
+    for (text, stripped) in STRIPPED {
+        let read = read_stripped_on(rt.alloc(), text)?;
+        let is_same = read.bytes.as_slice() == stripped && read.count == text.len();
+        expect(is_same, "other stripped bytes")?;
     }
     Ok(())
 }
@@ -201,7 +201,7 @@ fn growths_of_questions(rt: HostRuntime) -> Result<(), Fail> {
         rt.alloc(),
         &Command::About {
             label,
-            question: Question::Axioms,
+            question: Question::Axioms { essential: false },
         },
     )?;
     expect_replies(
@@ -270,7 +270,7 @@ fn answer_to(
     question: &Question,
 ) -> Result<Vec<u8>, AskFault> {
     match question {
-        Question::Axioms => axioms_text(alloc, checked, label),
+        Question::Axioms { .. } => axioms_text(alloc, checked, label),
         Question::Show => proof_listing(alloc, checked, label),
         Question::Uses { essential } => uses_listing(alloc, checked, label, *essential),
         Question::Form {
@@ -289,6 +289,8 @@ fn answer_to(
             let is_same = is_same_proof(alloc, checked, label, text)?;
             Ok(Vec::from_slice(alloc, if is_same { b"same" } else { b"no" })?)
         }
+        // No command of these tests asks for it.
+        Question::Chain(_) => Ok(Vec::new(alloc)),
         Question::Users { all } => users_text(alloc, checked, label, *all),
         Question::Statement => statement_text(alloc, checked, label),
         // It is asked by a command alone, so this is what is told where no search finds anything.
@@ -354,7 +356,7 @@ fn growths_of_calls(rt: HostRuntime) -> Result<(), Fail> {
     let uses = Question::Uses { essential: true };
     let statement = Question::Statement;
     let asked = [
-        Question::Axioms,
+        Question::Axioms { essential: false },
         Question::Show,
         uses,
         normal,

@@ -4,7 +4,7 @@ ghost use Rattle.std.specs.Prelude.{◌≡◌};
 ghost use Rattle.mm_text.specs.Device.{faults_of};
 
 use crate::calls::failing::failing_writer;
-use mm_text::{Counted, LoadFault, WriteFault, read_all, read_hollow};
+use mm_text::{Counted, LoadFault, WriteFault, read_all, read_stripped};
 use std::alloc::Global;
 use std::io;
 use std::io::{ErrorKind, Read};
@@ -163,9 +163,9 @@ fn counts_writes_of_nothing(rt: HostRuntime) -> Result<(), Fail> {
     Ok(())
 }
 
-/// Bytes, and what `read_hollow` gives of them: a comment with its line feeds, one with a `$`, one
+/// Bytes, and what `read_stripped` gives of them: a comment with its line feeds, one with a `$`, one
 /// that is never closed, one with a `$)` in a word, and one with a byte that may not stand there.
-pub(crate) const HOLLOW: [(&[u8], &[u8]); 5] = [
+pub(crate) const STRIPPED: [(&[u8], &[u8]); 5] = [
     (
         b"$c a $. $( says a\n lot\n $) $v x $.",
         b"$c a $. $( \n\n$) $v x $.",
@@ -178,17 +178,17 @@ pub(crate) const HOLLOW: [(&[u8], &[u8]); 5] = [
 
 #[test]
 fn leaves_out_what_comments_say(rt: HostRuntime) -> Result<(), Fail> {
-    for (bytes, hollow) in HOLLOW {
+    for (bytes, stripped) in STRIPPED {
         let mut reader = Counted::new(bytes);
-        let read = read_hollow(rt.alloc(), &mut reader, 40)?;
-        assert!(rt; read.bytes.as_slice() == hollow && read.count == bytes.len());
+        let read = read_stripped(rt.alloc(), &mut reader, 40)?;
+        assert!(rt; read.bytes.as_slice() == stripped && read.count == bytes.len());
     }
     Ok(())
 }
 
 #[test]
-fn refuses_hollow_bytes_over_the_limit(rt: HostRuntime) {
+fn refuses_stripped_bytes_over_the_limit(rt: HostRuntime) {
     let mut reader = Counted::new(b"$( $)".as_slice());
-    let fault = read_hollow(rt.alloc(), &mut reader, 4).err();
+    let fault = read_stripped(rt.alloc(), &mut reader, 4).err();
     assert!(rt; fault == Some(LoadFault::TooLong) && reader.faults() == 0);
 }

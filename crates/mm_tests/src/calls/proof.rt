@@ -13,7 +13,7 @@ mod small;
 mod tokens;
 mod wholes;
 
-ghost use Rattle.std.specs.Prelude.{◌≡◌, ◌≤◌, ◌++◌, ◌∷◌, [], ℕ, map, length, IfOk, IfSome, OnOk};
+ghost use Rattle.std.specs.Prelude.{◌≡◌, ◌≤◌, ◌++◌, ◌∷◌, [], ℕ, length, IfOk, IfSome, OnOk};
 ghost use Rattle.std.specs.List.{sum_by};
 ghost use Rattle.mm_base.specs.Statement.{plain_statement, HasForm, bytes_in};
 ghost use Rattle.mm_base.specs.declared.statement.Kind.TheVariants.{Provable};
@@ -22,12 +22,12 @@ ghost use Rattle.mm_frame.specs.declared.answer.Taken.TheVariants.{Assertion};
 ghost use Rattle.mm_frame.specs.Sentence.{Sentence, sentence_in};
 ghost use Rattle.mm_frame.specs.Taken.{TakenAs};
 ghost use Rattle.mm_step.specs.Steps.{IsProofNumber};
-ghost use Rattle.mm_code.specs.Layout.{texts};
+ghost use Rattle.mm_step.specs.Plain.{token_texts};
 
 use crate::databases::{HEAD, LIMIT};
 use mm_base::{File, Kind, Seed, Statement, Token};
 use mm_frame::{Book, Found, LabelId, Piece, ShortPiece, Sym, Taken};
-use mm_listing::{Line, Name, UsedSteps, listing, uses_of};
+use mm_listing::{Line, Name, UsedSteps, listing, partial_listing, uses_of};
 use mm_proof::{Parsed, Steps, verify};
 use mm_proof_laws::{
     by_spelling, by_word, fewest_steps, limits_aside, made_by_word, one_fit, one_packed,
@@ -81,7 +81,7 @@ const REFLEXIVE: [&[u8]; 7] = [b"tze", b"tpl", b"weq", b"wim", b"a1", b"a2", b"m
 struct Theorem<'a> {
     book: Book<'a>,
     id: LabelId,
-    tokens: Vec<&'a [u8]>,
+    tokens: Vec<Token<'a>>,
 }
 
 /// How many bytes some tokens have.
@@ -127,17 +127,6 @@ fn take<'a>(book: &mut Book<'a>, statement: &Statement<'a>) -> Result<Taken, Fai
     Ok(book.take(statement)?)
 }
 
-/// The texts of some tokens.
-fn texts_of<'a>(alloc: Global, tokens: &[Token<'a>]) -> Result<Vec<&'a [u8]>, AllocError>
-    ensures { IfOk result (λ v. texts v.items ≡ map (λ t. t.text.now) tokens.now) }
-{
-    let mut texts = Vec::new(alloc);
-    for token in tokens {
-        texts.push(token.text)?;
-    }
-    Ok(texts)
-}
-
 /// Reads the next statement.
 fn read_next<'a>(statements: &mut Statements<'a>, into: &mut Statement<'a>) -> Result<(), Fail>
     ensures { OnOk result (HasForm (plain_statement into.new)) }
@@ -180,11 +169,11 @@ fn take_theorem<'a>(
 }
 
 /// The tokens of the proof of a statement.
-fn tokens_of<'a>(alloc: Global, statement: &Statement<'a>) -> Result<Vec<&'a [u8]>, AllocError>
+fn tokens_of<'a>(alloc: Global, statement: &Statement<'a>) -> Result<Vec<Token<'a>>, AllocError>
     requires { bytes_in (plain_statement statement.now) ≤ most_bytes }
-    ensures { IfOk result (λ v. sum_by length (texts v.items) ≤ most_bytes) }
+    ensures { IfOk result (λ v. sum_by length (token_texts v.items) ≤ most_bytes) }
 {
-    let tokens = texts_of(alloc, &statement.proof)?;
+    let tokens = Vec::from_slice(alloc, &statement.proof)?;
     Ok(tokens)
 }
 
@@ -199,10 +188,10 @@ fn take_proof<'a>(
     statements: &mut Statements<'a>,
     book: &mut Book<'a>,
     into: &mut Statement<'a>,
-) -> Result<(LabelId, Vec<&'a [u8]>), Fail>
+) -> Result<(LabelId, Vec<Token<'a>>), Fail>
     ensures proof { IfOk result (λ taken. (index : ℕ) × (s : Sentence)
         × IsProofNumber book.new.statements taken.0.0 index s) }
-    ensures room { IfOk result (λ taken. sum_by length (texts taken.1.items) ≤ most_bytes) }
+    ensures room { IfOk result (λ taken. sum_by length (token_texts taken.1.items) ≤ most_bytes) }
 {
     let id = take_theorem(statements, book, into)?;
     let tokens = tokens_of(alloc, into)?;
@@ -217,7 +206,7 @@ fn theorem_from<'a>(
 ) -> Result<Theorem<'a>, Fail>
     ensures proof { IfOk result (λ t. (index : ℕ) × (s : Sentence)
         × IsProofNumber t.book.statements t.id.0 index s) }
-    ensures room { IfOk result (λ t. sum_by length (texts t.tokens.items) ≤ most_bytes) }
+    ensures room { IfOk result (λ t. sum_by length (token_texts t.tokens.items) ≤ most_bytes) }
 {
     let mut book = Book::new(alloc, Seed::known())?;
     match take_proof(alloc, statements, &mut book, into) {
@@ -233,7 +222,7 @@ fn theorem_from<'a>(
 fn first_theorem<'a>(alloc: Global, files: &'a [File<'a>]) -> Result<Theorem<'a>, Fail>
     ensures proof { IfOk result (λ t. (index : ℕ) × (s : Sentence)
         × IsProofNumber t.book.statements t.id.0 index s) }
-    ensures room { IfOk result (λ t. sum_by length (texts t.tokens.items) ≤ most_bytes) }
+    ensures room { IfOk result (λ t. sum_by length (token_texts t.tokens.items) ≤ most_bytes) }
 {
     let mut statements = reader(alloc, files)?;
     let mut statement = Statement::empty(alloc);
@@ -251,7 +240,7 @@ fn proved<S: Store + Drop>(
 ) -> Result<Option<Used>, ProofFault>
     requires proof { (index : ℕ) × (s : Sentence)
         × IsProofNumber theorem.now.book.statements theorem.now.id.0 index s }
-    requires room { sum_by length (texts theorem.now.tokens.items) ≤ most_bytes }
+    requires room { sum_by length (token_texts theorem.now.tokens.items) ≤ most_bytes }
     requires stack { S.stack store ≡ [] }
     requires kept { S.kept store ≡ [] }
 {
@@ -289,7 +278,7 @@ fn is_proved_with<S: Store + Drop>(
 ) -> Result<bool, Fail>
     requires proof { (index : ℕ) × (s : Sentence)
         × IsProofNumber theorem.now.book.statements theorem.now.id.0 index s }
-    requires room { sum_by length (texts theorem.now.tokens.items) ≤ most_bytes }
+    requires room { sum_by length (token_texts theorem.now.tokens.items) ≤ most_bytes }
     requires stack { S.stack store ≡ [] }
     requires kept { S.kept store ≡ [] }
 {
@@ -310,7 +299,7 @@ fn joined(alloc: Global, pieces: &[&[u8]]) -> Result<Vec<u8>, AllocError> {
 fn is_proved_by_both(alloc: Global, theorem: &Theorem, names: &[&[u8]]) -> Result<bool, Fail>
     requires proof { (index : ℕ) × (s : Sentence)
         × IsProofNumber theorem.now.book.statements theorem.now.id.0 index s }
-    requires room { sum_by length (texts theorem.now.tokens.items) ≤ most_bytes }
+    requires room { sum_by length (token_texts theorem.now.tokens.items) ≤ most_bytes }
 {
     Ok(
         is_proved_with(alloc, Flat::new(alloc), theorem, names)?
@@ -391,7 +380,7 @@ fn compressed_proof(rt: HostRuntime) -> Result<(), Fail> {
 fn listing_of(alloc: Global, theorem: &Theorem) -> Result<Vec<Line>, Fail>
     requires proof { (index : ℕ) × (s : Sentence)
         × IsProofNumber theorem.now.book.statements theorem.now.id.0 index s }
-    requires room { sum_by length (texts theorem.now.tokens.items) ≤ most_bytes }
+    requires room { sum_by length (token_texts theorem.now.tokens.items) ≤ most_bytes }
 {
     match Steps::parse(
         alloc,
@@ -435,7 +424,7 @@ fn are_shared_steps(book: &Book, lines: &[Line]) -> Result<bool, Fail> {
 fn shares_a_step(alloc: Global, theorem: &Theorem) -> Result<bool, Fail>
     requires proof { (index : ℕ) × (s : Sentence)
         × IsProofNumber theorem.now.book.statements theorem.now.id.0 index s }
-    requires room { sum_by length (texts theorem.now.tokens.items) ≤ most_bytes }
+    requires room { sum_by length (token_texts theorem.now.tokens.items) ≤ most_bytes }
 {
     let lines = listing_of(alloc, theorem)?;
     let answer = are_shared_steps(&theorem.book, &lines);
@@ -455,11 +444,59 @@ fn lists_shared_steps(alloc: Global, bytes: &[u8]) -> Result<bool, Fail> {
     answer
 }
 
+/// The steps of the proof, with the expressions of those that are told.
+fn partial_listing_of(alloc: Global, theorem: &Theorem, told: &[bool]) -> Result<Vec<Line>, Fail>
+    requires proof { (index : ℕ) × (s : Sentence)
+        × IsProofNumber theorem.now.book.statements theorem.now.id.0 index s }
+    requires room { sum_by length (token_texts theorem.now.tokens.items) ≤ most_bytes }
+{
+    match Steps::parse(
+        alloc,
+        Profile::Lenient,
+        &theorem.book,
+        theorem.id,
+        &theorem.tokens,
+    )? {
+        Parsed::Steps(steps) => Ok(partial_listing(
+            alloc,
+            &theorem.book,
+            theorem.id,
+            &steps,
+            told,
+        )?),
+        Parsed::Incomplete(_) => Err(Fail::from("incomplete")),
+    }
+}
+
+/// Whether the lines of these steps have expressions, and the others none.
+fn have_expressions(lines: &[Line], told: &[bool]) -> bool {
+    for (line, is_told) in lines.iter().zip(told.iter()) {
+        if line.expression.is_empty() == *is_told {
+            return false;
+        }
+    }
+    lines.len() == told.len()
+}
+
+/// Whether of the steps of the first `$p` of a database those have expressions that are told.
+fn lists_told_steps(alloc: Global, bytes: &[u8], told: &[bool]) -> Result<bool, Fail> {
+    let files = [File {
+        name: b"cat.mm",
+        bytes,
+    }];
+    let theorem = first_theorem(alloc, &files)?;
+    let lines = partial_listing_of(alloc, &theorem, told)?;
+    let answer = have_expressions(&lines, told);
+    drop(lines);
+    drop(theorem);
+    Ok(answer)
+}
+
 /// The steps of the proof, with what each of them uses.
 fn uses_in(alloc: Global, theorem: &Theorem) -> Result<UsedSteps, Fail>
     requires proof { (index : ℕ) × (s : Sentence)
         × IsProofNumber theorem.now.book.statements theorem.now.id.0 index s }
-    requires room { sum_by length (texts theorem.now.tokens.items) ≤ most_bytes }
+    requires room { sum_by length (token_texts theorem.now.tokens.items) ≤ most_bytes }
 {
     let parsed = Steps::parse(
         alloc,
@@ -479,7 +516,7 @@ fn uses_in(alloc: Global, theorem: &Theorem) -> Result<UsedSteps, Fail>
 fn links_steps(alloc: Global, theorem: &Theorem) -> Result<bool, Fail>
     requires proof { (index : ℕ) × (s : Sentence)
         × IsProofNumber theorem.now.book.statements theorem.now.id.0 index s }
-    requires room { sum_by length (texts theorem.now.tokens.items) ≤ most_bytes }
+    requires room { sum_by length (token_texts theorem.now.tokens.items) ≤ most_bytes }
 {
     let used = uses_in(alloc, theorem)?;
     let reached = used.reached(alloc)?;
@@ -519,6 +556,13 @@ fn steps_are_listed(rt: HostRuntime) -> Result<(), Fail> {
 }
 
 #[test]
+fn told_steps_are_listed(rt: HostRuntime) -> Result<(), Fail> {
+    let told = [true, false, false, true, false];
+    assert!(rt; lists_told_steps(rt.alloc(), SHARED, &told)?);
+    Ok(())
+}
+
+#[test]
 fn nothing_is_expanded(rt: HostRuntime) -> Result<(), Fail> {
     expect_used(&rt, rt.alloc(), &[JOINED], &[b"nil", b"cat"])
 }
@@ -527,7 +571,7 @@ fn nothing_is_expanded(rt: HostRuntime) -> Result<(), Fail> {
 fn passes_the_limit(alloc: Global, theorem: &Theorem) -> bool
     requires proof { (index : ℕ) × (s : Sentence)
         × IsProofNumber theorem.now.book.statements theorem.now.id.0 index s }
-    requires room { sum_by length (texts theorem.now.tokens.items) ≤ most_bytes }
+    requires room { sum_by length (token_texts theorem.now.tokens.items) ≤ most_bytes }
 {
     let rule = ProofRule::L1;
     let passed = Some(ProofFault::Rule { rule, step: 21 });

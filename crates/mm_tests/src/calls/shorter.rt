@@ -1,9 +1,11 @@
 //! Shorter proofs of a theorem, whatever a search gives.
 
+ghost use Rattle.std.specs.Prelude.{⊤};
+
 use mm_base::{File, Seed};
 use mm_check::{Command, WholeQuestion, reply_to};
 use mm_frame::{Book, LabelId};
-use mm_minimize::{OwnSize, Search, minimized};
+use mm_minimize::{OwnSize, Search, SearchWatch, Searched, minimized};
 use mm_proof::Steps;
 use mm_rules::{AskFault, AskRule};
 use mm_step::Profile;
@@ -16,6 +18,8 @@ use std::test::Fail;
 struct Given(&'static [u8]);
 
 impl Search for Given {
+    ghost is_whole = { λ _. ⊤ };
+
     fn candidate(
         &mut self,
         alloc: Global,
@@ -141,17 +145,24 @@ fn asks_for_a_proved_theorem(rt: HostRuntime) -> Result<(), Fail> {
     Ok(())
 }
 
-/// Counts how often it is told, and keeps what it was told last.
+/// Counts how often it is told, and keeps what it was told last, and what the search came to.
 #[derive(Clone, Copy)]
 struct Counting {
     calls: usize,
     last: Option<SoFar>,
+    searched: Option<Searched>,
 }
 
 impl Watch for Counting {
     fn told(&mut self, so_far: SoFar) {
         self.calls = self.calls.saturating_add(1);
         self.last = Some(so_far);
+    }
+}
+
+impl SearchWatch for Counting {
+    fn searched(&mut self, searched: Searched) {
+        self.searched = Some(searched);
     }
 }
 
@@ -164,6 +175,7 @@ fn watched(alloc: Global, question: WholeQuestion) -> Result<Counting, Fail> {
     let mut watch = Counting {
         calls: 0,
         last: None,
+        searched: None,
     };
     let command = Command::Whole {
         profile: Profile::Lenient,
@@ -186,6 +198,7 @@ fn tells_how_far_it_has_come(rt: HostRuntime) -> Result<(), Fail> {
             bytes: 14,
         })
     );
+    assert!(rt; matches!(told.searched, Some(Searched::Left(0))));
     assert_eq!(rt; watched(rt.alloc(), WholeQuestion::Check)?.calls, 0);
     Ok(())
 }

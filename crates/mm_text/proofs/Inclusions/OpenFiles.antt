@@ -47,8 +47,8 @@ use Rattle.mm_base.proofs.NoneThere.{none_there}
 -- ==== the names of files: different up to an index, two of them equal, and where one stands
 
 -- the names before an index are different
-abbrev pub AreApart : List (List ℕ) → ℕ → Type 0
-AreApart names n = (i j : ℕ) → i < j → j < n → get_or names i [] ≢ get_or names j []
+abbrev pub AreDisjoint : List (List ℕ) → ℕ → Type 0
+AreDisjoint names n = (i j : ℕ) → i < j → j < n → get_or names i [] ≢ get_or names j []
 
 name_at : (files : List File) (i : ℕ) (file : PlainFile) → slice_get (map plain_file files) i ≡ Some file → get_or (map (λ f. f.name.now) files) i [] ≡ file.name
 name_at [] i file e = absurd cc
@@ -64,13 +64,13 @@ twins_from_names files i j apart within same =
     record { i = i; j = j; one = one.0; other = other.0; apart = apart; at_i = one.1; at_j = other.1; same = sym (name_at files i one.0 one.1) ∙ same ∙ name_at files j other.0 other.1 }
 
 -- where all names are different no two files have one
-pub no_twins : (files : List File) (n : ℕ) → length files ≤ n → AreApart (map (λ f. f.name.now) files) n → ¬ (HasTwins (map plain_file files))
+pub no_twins : (files : List File) (n : ℕ) → length files ≤ n → AreDisjoint (map (λ f. f.name.now) files) n → ¬ (HasTwins (map plain_file files))
 no_twins files n all apart twins =
     let within : twins.j < n = omega (arith, slice_get_within (map plain_file files) twins.j twins.other twins.at_j, length-map files plain_file) in
     apart twins.i twins.j twins.apart within (name_at files twins.i twins.one twins.at_i ∙ twins.same ∙ sym (name_at files twins.j twins.other twins.at_j))
 
 -- the name at an index is among those before it, or isn't
-apart_more : (names : List (List ℕ)) (n : ℕ) → n < length names → AreApart names n → list_any (spells (get_or names n [])) (take n names) ≡ false → AreApart names (n + 1)
+apart_more : (names : List (List ℕ)) (n : ℕ) → n < length names → AreDisjoint names n → list_any (spells (get_or names n [])) (take n names) ≡ false → AreDisjoint names (n + 1)
 apart_more names n within apart none i j less more same =
     ⊎_elim (λ (below : j < n). apart i j less below same)
     (λ (last : n ≤ j).
@@ -131,8 +131,8 @@ module _ {K : Type 0} (g : K → List ℕ) (ks : List K) (files : List File) (n 
       twins_from_names files found.0 n found.1 lt found.2
 
   -- and where it isn't the names stay apart
-  pub apart_with : n < length files → map g ks ≡ take n (map (λ f. f.name.now) files) → AreApart (map (λ f. f.name.now) files) n
-      → list_any (λ k. spells (get_or files n d).name.now (g k)) ks ≡ false → AreApart (map (λ f. f.name.now) files) (n + 1)
+  pub apart_with : n < length files → map g ks ≡ take n (map (λ f. f.name.now) files) → AreDisjoint (map (λ f. f.name.now) files) n
+      → list_any (λ k. spells (get_or files n d).name.now (g k)) ks ≡ false → AreDisjoint (map (λ f. f.name.now) files) (n + 1)
   apart_with lt kept apart none =
       apart_more (map (λ f. f.name.now) files) n (omega (arith, length-map files (λ f. f.name.now))) apart (sym (among_names lt kept) ∙ none)
 

@@ -25,7 +25,7 @@ use Rattle.mm_text.proofs.Inclusions.FilePieces.{spliced_name}
 use Rattle.mm_text.proofs.Alike.AlikeItems.{SamePiece, SameShown, shown_same, pieces_same, SameItem}
 use Rattle.mm_text.proofs.Alike.AlikeItems.{spliced_same, pieces_agree, SameNames, as_long}
 use Rattle.mm_text.proofs.Alike.AlikeItems.{same_number}
-use Rattle.mm_text.proofs.Alike.HollowFiles.{seen, lines_seen}
+use Rattle.mm_text.proofs.Alike.StrippedFiles.{seen, lines_seen}
 use Rattle.mm_text.proofs.Tokens.CutTokens.{IsSpaced, replaced_between, clear_shown}
 use Rattle.mm_text.proofs.Inclusions.EachOnce.{Rises, rises_earlier, tokens_rise}
 use Rattle.mm_base.proofs.Lists.{all_push, all_weaker, mapped_zip, zip_append, get_set_same}

@@ -119,3 +119,27 @@ fn stops_where_its_device_fails(rt: HostRuntime) {
         assert_eq!(rt; device.calls, fails_at);
     }
 }
+
+// Beside the reply standard error is told what the search came to, whether progress is shown or not.
+#[test]
+fn tells_what_a_search_came_to(rt: HostRuntime) {
+    for (words, line) in [
+        (LIST.as_slice(), b"".as_slice()),
+        (FILE.as_slice(), b"".as_slice()),
+        (
+            ["mm", "minimize", "kk", "added.mm"].as_slice(),
+            b"mm: 42 bytes -> 37, 15 steps -> 10\n".as_slice(),
+        ),
+        (
+            ["mm", "minimize", "aa", "twenty.mm"].as_slice(),
+            b"mm: no shorter proof was found\n".as_slice(),
+        ),
+        (["mm", "small", "kk", "added.mm"].as_slice(), b"".as_slice()),
+    ] {
+        for is_shown in [false, true] {
+            let mut progress = ProgressLine::new(Vec::new(rt.alloc()), is_shown);
+            let (_status, _out, err) = outcome_of(rt.alloc(), words, &mut progress);
+            assert!(rt; err.as_slice() == line, "at {words:?}");
+        }
+    }
+}

@@ -1,5 +1,6 @@
 //! The words of the command line, read and refused as the kit's `clap` does it, as far as the
-//! program asks for it: commands with positional arguments and flags.
+//! program asks for it: commands with positional arguments, flags, and options with a word behind
+//! them.
 pub mod error;
 mod matches;
 mod reader;
@@ -44,7 +45,7 @@ impl Count for RangeInclusive<usize> {
     }
 }
 
-/// An argument: a flag where it has a long name, else one by its place.
+/// An argument: a flag or an option where it has a long name, else one by its place.
 pub struct Arg<'a> {
     name: &'a str,
     long: Option<&'a str>,
@@ -93,10 +94,19 @@ impl<'a> Arg<'a> {
         self.least != self.most
     }
 
+    /// Whether it is an option with a word behind it.
+    fn is_option(&self) -> bool {
+        let takes_word = matches!(self.action, ArgAction::Set | ArgAction::Append);
+        self.long.is_some() && takes_word
+    }
+
     /// How usage and errors name it.
     fn shown(&self, alloc: Global) -> Result<String, AllocError> {
         if let Some(long) = self.long {
-            return format_in!(alloc; "--{long}");
+            return match self.is_option() {
+                true => format_in!(alloc; "--{long} <{}>", self.name),
+                false => format_in!(alloc; "--{long}"),
+            };
         }
         let more = match self.action == ArgAction::Append {
             true => "...",

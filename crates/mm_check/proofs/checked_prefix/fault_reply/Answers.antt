@@ -1,6 +1,8 @@
 -- The lines, the refusal and the facts are those of the fault.
-use Rattle.std.proofs.Common.{ℕ, List, length, map, ap, ◌∙◌, ◌++◌, ◌≡◌, subst}
-use Rattle.mm_code.specs.Layout.{texts}
+use Rattle.std.proofs.Common.{ℕ, ◌≤◌, List, length, map, ap, ◌∙◌, ◌++◌, ◌≡◌, subst}
+use Rattle.std.specs.List.{sum_by}
+use Rattle.mm_base.specs.MostBytes.{most_bytes}
+use Rattle.mm_step.specs.Plain.{token_texts}
 use Rattle.mm_text.specs.Files.{plain_file, PlainFile}
 use Rattle.mm_base.specs.Statement.{plain_statement, PlainStatement}
 use Rattle.mm_frame.specs.Sentence.{Sentence, sentence_of}
@@ -13,6 +15,7 @@ use Rattle.mm_facts.specs.Explained.{AreDetails, Detail, details_text, IsTokensF
 use Rattle.mm_verdict.specs.Reply.{text_of}
 use Rattle.mm_rules.specs.Verdict.{PlainRefusal, Refused, refusal_of, sentences}
 use Rattle.mm_facts.specs.Why.{IsFaultPlace}
+use Rattle.mm_facts.specs.Mirror.Explaining.{IsCauseOf}
 use Rattle.mm_explain.specs.Why.{head_text}
 use Rattle.mm_explain.proofs.LoneProofs.LoneTheorems.{of_reached, reached_before, reached_few}
 use Rattle.mm_explain.proofs.LoneProofs.LoneTheorems.{reached_number}
@@ -28,6 +31,10 @@ pub cause_of-requires-clause-proof : goal.cause_of-requires-clause-proof
 cause_of-requires-clause-proof c =
     reached_proof (map plain_file c.args.files.now) c.args.reached.now c.requires.reached
 
+pub fault_place-at-requires-clause-room : goal.fault_place-at-requires-clause-room
+fault_place-at-requires-clause-room c =
+    subst (λ (ts : List (List ℕ)). sum_by length ts ≤ most_bytes) c.requires.tokens c.requires.room
+
 pub fault_place-at-requires-clause-cause : goal.fault_place-at-requires-clause-cause
 fault_place-at-requires-clause-cause c =
     let h = c.requires.reached.1 in (
@@ -38,7 +45,10 @@ fault_place-at-requires-clause-cause c =
       c.args.fault.0,
       c.args.fault.1,
       reached_number (map plain_file c.args.files.now) c.requires.reached.0 c.args.reached.now h,
-      c.in_ok-cause.ensures,
+      subst
+          (λ (ts : List (List ℕ)). IsCauseOf Lenient c.args.reached.now.book.statements
+          c.args.reached.now.id.0 ts c.args.fault.0 c.args.fault.1 c.in_ok-cause.cause)
+          c.requires.tokens c.in_ok-cause.ensures,
     )
 
 pub push_cause-requires-clause-proof : goal.push_cause-requires-clause-proof
@@ -47,14 +57,14 @@ push_cause-requires-clause-proof c =
 
 pub push_cause-requires-clause-cause : goal.push_cause-requires-clause-cause
 push_cause-requires-clause-cause c =
-    (texts c.args.tokens.now, c.args.fault.1, c.in_ok-cause.ensures)
+    (token_texts c.args.tokens.now, c.args.fault.1, c.in_ok-cause.ensures)
 
 pub returns : goal.returns
 returns c = λ label r.
     let files : List PlainFile = map plain_file c.args.files.now in
     let st = c.args.reached.now.book.statements in
     let s : PlainStatement = plain_statement c.args.reached.now.statement in
-    let tokens : List (List ℕ) = texts c.args.tokens.now in
+    let tokens : List (List ℕ) = token_texts c.args.tokens.now in
     let rule = c.args.fault.0 in
     let step = c.args.fault.1 in
     let mine = reached_number files label c.args.reached.now r in
@@ -63,7 +73,11 @@ returns c = λ label r.
     × (c.push_cause.new.out.items ≡ c.push_head.new.out.items ++ details_text details))
     (c.in_ok-push_cause.ensures tokens step c.in_ok-cause.ensures) in
     let place = c.fault_place-at.ensures Lenient st c.args.reached.now.id.0 (length r.before) rule step
-    mine c.in_ok-cause.ensures in
+    mine
+    (subst
+    (λ (ts : List (List ℕ)). IsCauseOf Lenient st c.args.reached.now.id.0 ts rule step
+    c.in_ok-cause.cause)
+    c.requires.tokens c.in_ok-cause.ensures) in
     let one : plain_refusal c.refusal-refusal.result
     ≡ refusal_of files (length r.before) s (rules.Proof rule) step =
     c.refusal-refusal.ensures.told

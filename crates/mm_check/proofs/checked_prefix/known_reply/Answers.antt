@@ -1,10 +1,32 @@
 -- The tokens are those of the theorem's proof.
-use Rattle.std.proofs.Common.{map, inr}
+use Rattle.std.proofs.Common.{◌≡◌, ◌≤◌, ◌∙◌, ℕ, List, length, map, ap, sym, subst, inr}
+use Rattle.std.specs.List.{sum_by}
 use Rattle.std.proofs.lemmas.Result.{IfOk-weaker}
-use Rattle.mm_text.specs.Files.{plain_file}
+use Rattle.mm_base.specs.MostBytes.{most_bytes}
+use Rattle.mm_base.specs.declared.token.Token.{Token}
+use Rattle.mm_base.specs.Statement.{plain_statement}
+use Rattle.mm_text.specs.Files.{plain_file, PlainFile}
+use Rattle.mm_step.specs.Plain.{token_texts}
+use Rattle.mm_rules.proofs.Judgements.JudgedProofs.{texts_of}
+use Rattle.mm_rules.specs.Verdict.{proof_of}
+use Rattle.mm_explain.specs.declared.read_to.Reached.{Reached}
+use Rattle.mm_explain.specs.Mirror.Reached.{HasReached}
 use Rattle.mm_explain.proofs.LoneProofs.LoneTheorems.{reached_fits}
 use Rattle.mm_check.proofs.KnownSteps.{reached_proof}
 use Rattle.mm_check.proofs.checked_prefix.known_reply.Goals as goal
+
+-- the tokens of its statement's proof are those of the proof, and in room
+own_texts : (reached : Reached) (tokens : List Token) → tokens ≡ reached.statement.proof.items
+    → token_texts tokens ≡ proof_of (plain_statement reached.statement)
+own_texts reached tokens same =
+    ap token_texts same ∙ texts_of reached.statement.proof.items
+
+own_room : (files : List PlainFile) (label : List ℕ) (reached : Reached)
+    → HasReached files label reached → (tokens : List Token)
+    → tokens ≡ reached.statement.proof.items → sum_by length (token_texts tokens) ≤ most_bytes
+own_room files label reached has tokens same =
+    subst (λ (ts : List (List ℕ)). sum_by length ts ≤ most_bytes)
+    (sym (own_texts reached tokens same)) (reached_fits files label reached has)
 
 pub judged_steps-requires-clause-proof : goal.judged_steps-requires-clause-proof
 judged_steps-requires-clause-proof c =
@@ -12,18 +34,26 @@ judged_steps-requires-clause-proof c =
 
 pub judged_steps-requires-clause-room : goal.judged_steps-requires-clause-room
 judged_steps-requires-clause-room c =
-    rw (c.deref.ensures.value, c.in_ok-tokens.ensures)
-    (reached_fits (map plain_file c.args.files.now) c.requires.0 c.args.reached.now c.requires.1)
+    own_room (map plain_file c.args.files.now) c.requires.0 c.args.reached.now c.requires.1
+    c.deref.result.now c.deref.ensures.value
+
+pub steps_reply-requires-clause-tokens : goal.steps_reply-requires-clause-tokens
+steps_reply-requires-clause-tokens c =
+    own_texts c.args.reached.now c.deref-in-Ok.result.now c.deref-in-Ok.ensures.value
 
 pub steps_reply-requires-clause-room : goal.steps_reply-requires-clause-room
 steps_reply-requires-clause-room c =
-    rw (c.deref-in-Ok.ensures.value, c.in_ok-tokens.ensures)
-    (reached_fits (map plain_file c.args.files.now) c.requires.0 c.args.reached.now c.requires.1)
+    own_room (map plain_file c.args.files.now) c.requires.0 c.args.reached.now c.requires.1
+    c.deref-in-Ok.result.now c.deref-in-Ok.ensures.value
+
+pub fault_reply-requires-clause-tokens : goal.fault_reply-requires-clause-tokens
+fault_reply-requires-clause-tokens c =
+    own_texts c.args.reached.now c.deref-in-Err-Rule.result.now c.deref-in-Err-Rule.ensures.value
 
 pub fault_reply-requires-clause-room : goal.fault_reply-requires-clause-room
 fault_reply-requires-clause-room c =
-    rw (c.deref-in-Err-Rule.ensures.value, c.in_ok-tokens.ensures)
-    (reached_fits (map plain_file c.args.files.now) c.requires.0 c.args.reached.now c.requires.1)
+    own_room (map plain_file c.args.files.now) c.requires.0 c.args.reached.now c.requires.1
+    c.deref-in-Err-Rule.result.now c.deref-in-Err-Rule.ensures.value
 
 pub fault_reply-requires-clause-fault : goal.fault_reply-requires-clause-fault
 fault_reply-requires-clause-fault c =

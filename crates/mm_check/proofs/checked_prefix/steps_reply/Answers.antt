@@ -3,14 +3,14 @@ use Rattle.std.proofs.Common.{◌≡◌, ℕ, List, arith, map, true, false, inl
 use Rattle.std.proofs.Common.{◌∙◌}
 use Rattle.std.specs.List.{AllZip}
 use Rattle.std.proofs.lemmas.Result.{IfOk-weaker}
-use Rattle.mm_code.specs.Layout.{texts}
+use Rattle.mm_step.specs.Plain.{token_texts}
 use Rattle.mm_text.specs.Files.{plain_file}
 use Rattle.mm_frame.specs.Sentence.{Sentence}
 use Rattle.mm_listing.specs.declared.lines.Line.{Line}
 use Rattle.mm_listing.specs.Listing.{TellsStep}
 use Rattle.mm_explain.specs.Mirror.Reached.{AreTried}
 use Rattle.mm_proof.specs.declared.prover.Proved.TheVariants.{Complete}
-use Rattle.mm_check.specs.Reply.{IsKnownPrefix}
+use Rattle.mm_check.specs.Reply.{IsCheckedPrefix}
 use Rattle.mm_render.specs.Shown.{IsListingText}
 use Rattle.mm_rules.specs.Status.{number_of}
 use Rattle.mm_check.proofs.KnownSteps.{IsTextOfLines, first_pass, first_within, known_fault}
@@ -43,7 +43,7 @@ overflow_add-fault c = omega (arith, c.in_ok-halt.halt.few)
 
 pub fault_reply-requires-clause-fault : goal.fault_reply-requires-clause-fault
 fault_reply-requires-clause-fault c =
-    known_fault c.args.reached.now.book.statements c.args.reached.now.id.0 (texts c.args.tokens.now)
+    known_fault c.args.reached.now.book.statements c.args.reached.now.id.0 (token_texts c.args.tokens.now)
     c.args.steps.now c.in_ok-halt.halt c.requires.said c.requires.prefix c.requires.profile
     c.in_ok-halt.ensures.halted c.in-Some.rule c.in-Some.is
 
@@ -54,7 +54,7 @@ fault_reply-requires-clause-shown c =
     λ steps zip. c.in_ok-lines.ensures steps
     (subst (λ (lines : List Line). AllZip (TellsStep st) lines steps) (sym c.deref.ensures.value)
     zip) in
-    known_shown st c.args.reached.now.id.0 (texts c.args.tokens.now) c.args.steps.now
+    known_shown st c.args.reached.now.id.0 (token_texts c.args.tokens.now) c.args.steps.now
     c.in_ok-halt.halt c.requires.said c.requires.prefix c.requires.profile
     c.in_ok-halt.ensures.halted c.in_ok-before.before.items c.in_ok-before.ensures.listed
     c.in_ok-lines.lines.items laid
@@ -68,7 +68,7 @@ pub prefix_reply-requires-clause-allowed : goal.prefix_reply-requires-clause-all
 prefix_reply-requires-clause-allowed c = λ index s number.
     let prefix : c.args.steps.now.prefix ≡ true = sym c.is_prefix.ensures ∙ c.if-is_prefix.true in
     (known_tried c.args.reached.now.book.statements c.args.reached.now.id.0
-    (texts c.args.tokens.now) c.args.steps.now c.in_ok-halt.halt c.requires.said
+    (token_texts c.args.tokens.now) c.args.steps.now c.in_ok-halt.halt c.requires.said
     c.requires.prefix c.requires.profile c.in_ok-halt.ensures.halted c.in-None.is true prefix index s number).1
 
 pub prefix_reply-requires-clause-shown : goal.prefix_reply-requires-clause-shown
@@ -79,7 +79,7 @@ prefix_reply-requires-clause-shown c =
     λ steps zip. c.in_ok-lines.ensures steps
     (subst (λ (lines : List Line). AllZip (TellsStep st) lines steps) (sym c.deref.ensures.value)
     zip) in
-    known_listed st c.args.reached.now.id.0 (texts c.args.tokens.now) c.args.steps.now
+    known_listed st c.args.reached.now.id.0 (token_texts c.args.tokens.now) c.args.steps.now
     c.in_ok-halt.halt c.requires.said c.requires.prefix c.requires.profile
     c.in_ok-halt.ensures.halted c.in_ok-before.before.items c.in_ok-before.ensures.listed
     c.in_ok-lines.lines.items laid c.in-None.is true prefix
@@ -89,7 +89,7 @@ returns-in-None c =
     IfOk-weaker c.prefix_reply.result _ _
     (λ reply told label r. inr (inl (rw c.requires.tokens at (of_reached
     (map plain_file c.args.files.now) label c.args.reached.now r
-    (λ before s. IsKnownPrefix before s (texts c.args.tokens.now) reply.text.items
+    (λ before s. IsCheckedPrefix before s (token_texts c.args.tokens.now) reply.text.items
     (number_of reply.status))
     told))))
     c.prefix_reply.ensures
@@ -97,7 +97,7 @@ returns-in-None c =
 pub returns : goal.returns
 returns c = λ label r.
     let st : List Sentence = c.args.reached.now.book.statements in
-    let tokens : List (List ℕ) = texts c.args.tokens.now in
+    let tokens : List (List ℕ) = token_texts c.args.tokens.now in
     let whole : c.args.steps.now.prefix ≡ false = sym c.is_prefix.ensures ∙ c.if-is_prefix.false in
     let laid : IsTextOfLines st c.in_ok-before.before.items c.in_ok-lines.lines.items =
     λ steps zip. c.in_ok-lines.ensures steps

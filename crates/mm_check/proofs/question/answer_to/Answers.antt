@@ -13,14 +13,17 @@ use Rattle.mm_check.proofs.AnswersTold.{text_told}
 use Rattle.mm_check.proofs.question.answer_to.Goals as goal
 
 pub returns-in-Axioms : goal.returns-in-Axioms
-returns-in-Axioms c =
+returns-in-Axioms g c =
     rw c.in-Axioms.is
     (IfOk-weaker c.axioms_answer.result _ _
     (λ reply h statements reads. h statements reads (c.requires statements None reads))
     c.axioms_answer.ensures)
 
+pub returns-in-Chain : goal.returns-in-Chain
+returns-in-Chain g c = rw c.in-Chain.is c.chain_answer.ensures
+
 pub returns-in-Show : goal.returns-in-Show
-returns-in-Show c =
+returns-in-Show g c =
     let label : List ℕ = c.args.label.now in
     rw c.in-Show.is
     (text_told c.args.checked.now.files label (λ statements text. ShowsProof statements label text)
@@ -28,7 +31,7 @@ returns-in-Show c =
     c.proof_listing.ensures.shown c.proof_listing.ensures.fault c.text_reply.ensures)
 
 pub returns-in-Uses : goal.returns-in-Uses
-returns-in-Uses c =
+returns-in-Uses g c =
     let label : List ℕ = c.args.label.now in
     rw c.in-Uses.is
     (text_told c.args.checked.now.files label
@@ -37,7 +40,7 @@ returns-in-Uses c =
     c.uses_listing.ensures.shown c.uses_listing.ensures.fault c.text_reply-in-Uses.ensures)
 
 pub returns-in-Form : goal.returns-in-Form
-returns-in-Form c =
+returns-in-Form g c =
     let label : List ℕ = c.args.label.now in
     let files : List PlainFile = c.args.checked.now.files in
     rw c.in-Form.is
@@ -48,10 +51,10 @@ returns-in-Form c =
     c.form_text.ensures.text c.form_text.ensures.fault c.text_reply-in-Form.ensures)
 
 pub returns-in-Same : goal.returns-in-Same
-returns-in-Same c = rw c.in-Same.is c.same_answer.ensures
+returns-in-Same g c = rw c.in-Same.is c.same_answer.ensures
 
 pub returns-in-Users : goal.returns-in-Users
-returns-in-Users c =
+returns-in-Users g c =
     let label : List ℕ = c.args.label.now in
     rw c.in-Users.is
     (text_told c.args.checked.now.files label
@@ -60,7 +63,7 @@ returns-in-Users c =
     c.users_text.ensures.text c.users_text.ensures.fault c.text_reply-in-Users.ensures)
 
 pub returns-in-Statement : goal.returns-in-Statement
-returns-in-Statement c =
+returns-in-Statement g c =
     let label : List ℕ = c.args.label.now in
     let files : List PlainFile = c.args.checked.now.files in
     rw c.in-Statement.is
@@ -69,7 +72,7 @@ returns-in-Statement c =
     c.statement_text.ensures.told c.statement_text.ensures.fault c.text_reply-in-Statement.ensures)
 
 pub returns-in-Minimized : goal.returns-in-Minimized
-returns-in-Minimized c =
+returns-in-Minimized g c =
     let label : List ℕ = c.args.label.now in
     let files : List PlainFile = c.args.checked.now.files in
     rw c.in-Minimized.is

@@ -19,8 +19,8 @@ pub asked_in-requires-clause-entries : goal.asked_in-requires-clause-entries
 asked_in-requires-clause-entries c =
     let st = c.args.book.now.statements in
     let at = c.frame.result.index in
-    let xs = c.scheme-scheme.result.hypotheses.now in
-    let are = hypotheses_at c.frame.result st _ c.frame.ensures.book c.scheme-scheme.ensures.ids in
+    let xs = c.signature-signature.result.hypotheses.now in
+    let are = hypotheses_at c.frame.result st _ c.frame.ensures.book c.signature-signature.ensures.ids in
     let p = c.requires.proof in
     let step = c.requires.step p.0 p.1 p.2 in
     sym (as_many_named st p.0 c.frame-own.ensures.sound.0 _ at c.frame.ensures.index.0
@@ -31,10 +31,10 @@ pub returns : goal.returns
 returns c =
     let st = c.args.book.now.statements in
     let at = c.frame.result.index in
-    let xs = c.scheme-scheme.result.hypotheses.now in
-    let are = hypotheses_at c.frame.result st _ c.frame.ensures.book c.scheme-scheme.ensures.ids in
-    let typed = rw c.frame.ensures.book at c.scheme-scheme.ensures.typed in
-    let patterned = rw c.frame.ensures.book at c.scheme-scheme.ensures.patterns in
+    let xs = c.signature-signature.result.hypotheses.now in
+    let are = hypotheses_at c.frame.result st _ c.frame.ensures.book c.signature-signature.ensures.ids in
+    let typed = rw c.frame.ensures.book at c.signature-signature.ensures.typed in
+    let patterned = rw c.frame.ensures.book at c.signature-signature.ensures.patterns in
     let p = c.requires.proof in
     let step = c.requires.step p.0 p.1 p.2 in
     let many = as_many_named st p.0 c.frame-own.ensures.sound.0 _ at c.frame.ensures.index.0

@@ -8,7 +8,7 @@ use Rattle.mm_distinct.proofs.asked.asked_in.Goals as goal
 
 pub said_of-requires : goal.said_of-requires
 said_of-requires c =
-    let xs = c.args.scheme.now.hypotheses.now in
+    let xs = c.args.signature.now.hypotheses.now in
     let size : length (variables_of xs) ≡ length c.args.entries.now =
     variables_counted xs ∙ c.requires.entries in
     part_within _ _ xs _ _ c.args.number _ no_hypothesis size c.requires.patterns.1

@@ -8,6 +8,6 @@ use Rattle.mm_distinct.proofs.lacking.add_of_each.Given as goal
 abbrev pub invariant-loop-pair : goal.invariant-loop-pair
 invariant-loop-pair g l =
     AddsLacking l.fn.book.statements l.fn.own.index
-    (value_of (variables_of l.scheme.hypotheses.now) (drop l.base (g.S.Store.stack l.store)))
-    (take l.pair-index (pairs_in l.scheme.pairs.now)) (number_pairs l.initial.lacking.items)
+    (value_of (variables_of l.signature.hypotheses.now) (drop l.base (g.S.Store.stack l.store)))
+    (take l.pair-index (pairs_in l.signature.pairs.now)) (number_pairs l.initial.lacking.items)
     (number_pairs l.lacking.items)

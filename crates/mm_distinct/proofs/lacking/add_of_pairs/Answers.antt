@@ -8,6 +8,6 @@ use Rattle.mm_distinct.proofs.lacking.add_of_pairs.Goals as goal
 pub returns : goal.returns
 returns g c = on_ok_weaker c.add_of_each.result
     (found_of_rows c.args.book.now.statements c.args.own.now.index
-    (variables_of c.args.scheme.now.hypotheses.now)
-    (drop c.args.base (g.S.Store.stack c.args.store.now)) _ (pairs_in c.args.scheme.now.pairs.now)
+    (variables_of c.args.signature.now.hypotheses.now)
+    (drop c.args.base (g.S.Store.stack c.args.store.now)) _ (pairs_in c.args.signature.now.pairs.now)
     _ _ c.in_ok-entries.ensures) c.add_of_each.ensures

@@ -14,16 +14,16 @@ use Rattle.mm_step.proofs.ByNumbers.StepByAssertion.{called_of, drop_below}
 use Rattle.mm_distinct.proofs.LackingPairs.LackingSteps.{stops_with, concludes_with}
 use Rattle.mm_distinct.proofs.lacking.step_assertion.Goals as goal
 
-pub returns-then-count-scheme-clause-steps : goal.returns-then-count-scheme-clause-steps
-returns-then-count-scheme-clause-steps g c id of =
+pub returns-then-count-signature-clause-steps : goal.returns-then-count-signature-clause-steps
+returns-then-count-signature-clause-steps g c id of =
     let st = c.args.book.now.statements in
-    let xs = c.args.scheme.now.hypotheses.now in
+    let xs = c.args.signature.now.hypotheses.now in
     let stack = g.S.Store.stack c.args.store.now in
-    let called = called_of st c.args.own.now.index id c.args.scheme.now of in
+    let called = called_of st c.args.own.now.index id c.args.signature.now of in
     let short : length stack < length of.hypotheses.hypotheses =
     omega (
       arith,
-      c.if-count-scheme.true,
+      c.if-count-signature.true,
       c.len-count.ensures,
       as_many st xs
           of.hypotheses.hypotheses called.known,
@@ -36,16 +36,16 @@ returns-then-count-scheme-clause-steps g c id of =
 pub returns-in_default-clause-steps : goal.returns-in_default-clause-steps
 returns-in_default-clause-steps g c id of =
     let st = c.args.book.now.statements in
-    let xs = c.args.scheme.now.hypotheses.now in
+    let xs = c.args.signature.now.hypotheses.now in
     let stack = g.S.Store.stack c.args.store.now in
     let base = c.len-count.result - length xs in
-    let called = called_of st c.args.own.now.index id c.args.scheme.now of in
+    let called = called_of st c.args.own.now.index id c.args.signature.now of in
     let paired : length (drop base stack) ≡ length of.hypotheses.hypotheses =
     omega (
       arith,
       length-drop base stack,
       c.len-count.ensures,
-      c.if-count-scheme.false,
+      c.if-count-signature.false,
       as_many st
           xs of.hypotheses.hypotheses called.known,
     ) in
@@ -63,18 +63,18 @@ are_equal-requires-clause-below g c =
 pub returns-then-not-are_equal-clause-steps : goal.returns-then-not-are_equal-clause-steps
 returns-then-not-are_equal-clause-steps g c id of =
     let st = c.args.book.now.statements in
-    let xs = c.args.scheme.now.hypotheses.now in
+    let xs = c.args.signature.now.hypotheses.now in
     let hs = of.hypotheses.hypotheses in
     let stack = g.S.Store.stack c.args.store.now in
     let base = c.len-count.result - length xs in
-    let called = called_of st c.args.own.now.index id c.args.scheme.now of in
+    let called = called_of st c.args.own.now.index id c.args.signature.now of in
     let typed = typed_variables st xs hs of.typed called.known in
     let paired : length (drop base stack) ≡ length hs =
     omega (
       arith,
       length-drop base stack,
       c.len-count.ensures,
-      c.if-count-scheme.false,
+      c.if-count-signature.false,
       as_many st
           xs hs called.known,
     ) in
@@ -91,18 +91,18 @@ returns-then-not-are_equal-clause-steps g c id of =
 pub returns-then-has_shared_pair-clause-steps : goal.returns-then-has_shared_pair-clause-steps
 returns-then-has_shared_pair-clause-steps g c id of =
     let st = c.args.book.now.statements in
-    let xs = c.args.scheme.now.hypotheses.now in
+    let xs = c.args.signature.now.hypotheses.now in
     let hs = of.hypotheses.hypotheses in
     let stack = g.S.Store.stack c.args.store.now in
     let base = c.len-count.result - length xs in
-    let called = called_of st c.args.own.now.index id c.args.scheme.now of in
+    let called = called_of st c.args.own.now.index id c.args.signature.now of in
     let typed = typed_variables st xs hs of.typed called.known in
     let paired : length (drop base stack) ≡ length hs =
     omega (
       arith,
       length-drop base stack,
       c.len-count.ensures,
-      c.if-count-scheme.false,
+      c.if-count-signature.false,
       as_many st
           xs hs called.known,
     ) in
@@ -112,7 +112,7 @@ returns-then-has_shared_pair-clause-steps g c id of =
     rw c.if-not-are_equal.ensures.stack (stops_with c.args.limit st c.args.own.now.index id stack _
     c.requires.entries P11 (λ e. absurd cc)
     (stops_P11 c.args.limit c.one_number.ensures st c.args.own.now.index id of.at (label_ids xs) hs
-    stack base (variables_of xs) (pairs_in c.args.scheme.now.pairs.now) c.requires.sound.0 called
+    stack base (variables_of xs) (pairs_in c.args.signature.now.pairs.now) c.requires.sound.0 called
     paired typed of.pairs
     codes (c.if-not-are_equal.ensures.equal (replaced_by hs (all_names_at st (drop base stack))) r
     hs called.known)
@@ -120,8 +120,8 @@ returns-then-has_shared_pair-clause-steps g c id of =
 
 pub conclude-requires-clause-within : goal.conclude-requires-clause-within
 conclude-requires-clause-within g c =
-    let of = c.requires.scheme.1 in
-    let xs = c.args.scheme.now.hypotheses.now in
+    let of = c.requires.signature.1 in
+    let xs = c.args.signature.now.hypotheses.now in
     let stack = g.S.Store.stack c.args.store.now in
     let base = c.len-count.result - length xs in
     let size : length (variables_of xs) ≡ length (drop base stack) =
@@ -129,27 +129,27 @@ conclude-requires-clause-within g c =
       arith,
       length-drop base stack,
       c.len-count.ensures,
-      c.if-count-scheme.false,
+      c.if-count-signature.false,
       variables_counted xs,
     ) in
     rw c.if-not-are_equal.ensures.stack (its_within c.args.book.now.statements (variables_of xs) _
-    of.s c.args.scheme.now.conclusion.now size of.concluded)
+    of.s c.args.signature.now.conclusion.now size of.concluded)
 
 pub returns-clause-steps : goal.returns-clause-steps
 returns-clause-steps g c = IfOk-weaker c.conclude.result _ _ (λ made said id of.
     let st = c.args.book.now.statements in
-    let xs = c.args.scheme.now.hypotheses.now in
+    let xs = c.args.signature.now.hypotheses.now in
     let hs = of.hypotheses.hypotheses in
     let stack = g.S.Store.stack c.args.store.now in
     let base = c.len-count.result - length xs in
-    let called = called_of st c.args.own.now.index id c.args.scheme.now of in
+    let called = called_of st c.args.own.now.index id c.args.signature.now of in
     let typed = typed_variables st xs hs of.typed called.known in
     let codes = c.in-Some.ensures.codes st of.typed (drop_below st _ base stack c.requires.entries)
     hs called.known in
     let r = replaces_by c.one_number.ensures st (variables_of xs) hs (drop base stack) typed in
     let count : base + length xs ≡ length stack =
-    omega (arith, c.len-count.ensures, c.if-count-scheme.false) in
-    concludes_with c.args.limit c.one_number.ensures st c.args.own.now.index id c.args.scheme.now of
+    omega (arith, c.len-count.ensures, c.if-count-signature.false) in
+    concludes_with c.args.limit c.one_number.ensures st c.args.own.now.index id c.args.signature.now of
     c.requires.sound.0 stack base count
     c.requires.entries codes
     (c.if-not-are_equal.ensures.equal (replaced_by hs (all_names_at st (drop base stack))) r hs

@@ -5,7 +5,7 @@ use Rattle.mm_step.specs.declared.fault.ProofRule.TheVariants.{L1}
 use Rattle.mm_step.specs.Stores.{numbers_in}
 use Rattle.mm_step.specs.Mirror.CodeAsked.{number_pairs}
 use Rattle.mm_step.specs.Mirror.CodeVerify.{AreStackEntries}
-use Rattle.mm_step.specs.Mirror.CodeApply.{IsCallOf, IsEarlierScheme}
+use Rattle.mm_step.specs.Mirror.CodeApply.{IsCallOf, IsEarlierSignature}
 use Rattle.mm_distinct.specs.Mirror.CodeLacking.{StepsWith}
 use Rattle.mm_step.specs.Mirror.Sites.{ProofSite, IsSite}
 use Rattle.mm_step.proofs.ByNumbers.StepByAssertion.{stops_long}
@@ -39,13 +39,13 @@ returns-in_ok-push-in-Hypothesis-clause-steps g c id of =
     (subst IsSite c.site.view_is c.site.invariant.1).sound.0 u.1 u.2 u.3
     (omega (arith, c.if-expression-site.false, limit, long)))
 
-pub step_assertion-requires-clause-scheme : goal.step_assertion-requires-clause-scheme
-step_assertion-requires-clause-scheme g c =
+pub step_assertion-requires-clause-signature : goal.step_assertion-requires-clause-signature
+step_assertion-requires-clause-signature g c =
     let id = c.requires.call.0 in
     let of = subst (IsCallOf c.args.site.now.statements c.args.site.now.index id) c.in-Assertion.is
     c.requires.call.1 in (
       id,
-      subst (λ (v : ProofSite). IsEarlierScheme v.statements v.index id c.in-Assertion.scheme)
+      subst (λ (v : ProofSite). IsEarlierSignature v.statements v.index id c.in-Assertion.signature)
           (sym c.site.view_is) of,
     )
 
@@ -57,7 +57,7 @@ step_assertion-requires-clause-entries g c =
 pub returns-in-Assertion-clause-steps : goal.returns-in-Assertion-clause-steps
 returns-in-Assertion-clause-steps g c =
     let steps = subst (λ (v : ProofSite). IfOk c.step_assertion.result (λ made. (id : ℕ)
-    → IsEarlierScheme v.statements v.index id c.in-Assertion.scheme
+    → IsEarlierSignature v.statements v.index id c.in-Assertion.signature
     → StepsWith v.limit v.statements v.index id (number_pairs c.args.lacking.now.items)
     (number_pairs c.step_assertion.new.lacking.items)
     (g.S.Store.stack c.args.store.now) (g.S.Store.stack c.step_assertion.new.store) made))

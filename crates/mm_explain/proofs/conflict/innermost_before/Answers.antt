@@ -1,6 +1,6 @@
 -- The last of the blocks that are open before the site.
 use Rattle.std.proofs.Common.{◌≡◌, ◌∷◌, ◌++◌, length, None, Some, arith}
-use Rattle.mm_explain.proofs.Breaches.{taken_at}
+use Rattle.mm_explain.proofs.SemanticErrors.{taken_at}
 use Rattle.mm_explain.proofs.InnermostBlocks.{balanced_before, empty_list, open_block_there}
 use Rattle.mm_explain.proofs.conflict.innermost_before.Goals as goal
 

@@ -8,7 +8,7 @@ use Rattle.mm_facts.specs.Explained.{Detail, block_opened}
 use Rattle.mm_explain.specs.MeaningFacts.{AreEarlierFacts, met_facts}
 use Rattle.mm_facts.specs.MeaningFacts.{met_as}
 use Rattle.mm_rules.specs.Places.{token_place}
-use Rattle.mm_explain.specs.Mirror.Breaches.{IsBroken}
+use Rattle.mm_explain.specs.Mirror.SemanticErrors.{IsBroken}
 use Rattle.mm_explain.proofs.Collisions.{block_there, of_names}
 use Rattle.mm_facts.proofs.HaltDetails.{one_told}
 use Rattle.mm_explain.proofs.InnermostBlocks.{block_open}
@@ -16,9 +16,9 @@ use Rattle.mm_explain.proofs.conflict.push_earlier.Goals as goal
 
 pub innermost_before-requires-clause-opened : goal.innermost_before-requires-clause-opened
 innermost_before-requires-clause-opened c =
-    block_open (map plain_file c.args.files.now) c.args.breach.now.before
+    block_open (map plain_file c.args.files.now) c.args.error.now.before
     (subst
-    (λ (r : MeaningRule). IsBroken (map plain_file c.args.files.now) c.args.breach.now.before r)
+    (λ (r : MeaningRule). IsBroken (map plain_file c.args.files.now) c.args.error.now.before r)
     c.in-M1.is c.requires.known)
 
 pub returns-in_ok-block-in-M1 : goal.returns-in_ok-block-in-M1
@@ -29,9 +29,9 @@ returns-in_ok-block-in-M1 c =
     on_ok_weaker c.push_block.result (λ text. (
       details,
       (λ site. subst
-          (λ (r : MeaningRule). AreEarlierFacts files r site.before site.s c.args.breach.now.index details)
+          (λ (r : MeaningRule). AreEarlierFacts files r site.before site.s c.args.error.now.index details)
           (sym c.in-M1.is)
-          (block_there files site.before site.s c.args.breach.now.index t
+          (block_there files site.before site.s c.args.error.now.index t
           (c.in_ok-block-in-M1.ensures site))),
       one_told c.args.out.now.items c.push_block.new.out.items (block_opened (token_place files t)) text,
     )) c.push_block.ensures
@@ -39,10 +39,10 @@ returns-in_ok-block-in-M1 c =
 pub returns-in-Some : goal.returns-in-Some
 returns-in-Some c =
     let files : List PlainFile = map plain_file c.args.files.now in
-    let rule : MeaningRule = c.args.breach.now.rule in
+    let rule : MeaningRule = c.args.error.now.rule in
     on_ok_weaker c.push_met.result (λ text. (
       met_as rule (token_place files (plain_token c.in-Some.token)) ∷ [],
-      (λ site. of_names files rule site.before site.s c.args.breach.now.index _ c.in_default.not-M1
+      (λ site. of_names files rule site.before site.s c.args.error.now.index _ c.in_default.not-M1
           (ap (met_facts files rule) (rw c.in-Some.is at (c.in_ok-token-in_default.ensures site)))),
       one_told c.args.out.now.items c.push_met.new.out.items
           (met_as rule (token_place files (plain_token c.in-Some.token))) text,
@@ -51,9 +51,9 @@ returns-in-Some c =
 pub returns-in-None : goal.returns-in-None
 returns-in-None c =
     let files : List PlainFile = map plain_file c.args.files.now in
-    let rule : MeaningRule = c.args.breach.now.rule in (
+    let rule : MeaningRule = c.args.error.now.rule in (
       [],
-      (λ site. of_names files rule site.before site.s c.args.breach.now.index [] c.in_default.not-M1
+      (λ site. of_names files rule site.before site.s c.args.error.now.index [] c.in_default.not-M1
           (ap (met_facts files rule) (rw c.in-None.is at (c.in_ok-token-in_default.ensures site)))),
       sym (append-nil c.args.out.now.items),
     )

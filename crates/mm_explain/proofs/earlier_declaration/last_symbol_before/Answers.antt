@@ -7,11 +7,11 @@ use Rattle.mm_explain.proofs.earlier_declaration.last_symbol_before.Goals as goa
 pub returns-in-Some : goal.returns-in-Some
 returns-in-Some c =
     let tokens : c.first_of.result.now
-    ≡ take c.in-Some.index c.args.breach.now.statement.symbols.items =
+    ≡ take c.in-Some.index c.args.error.now.statement.symbols.items =
     c.first_of.ensures ∙ ap (take c.in-Some.index) c.deref.ensures.value in
     rw (
       c.in-Some.is,
-      take-map plain_token c.in-Some.index c.args.breach.now.statement.symbols.items,
+      take-map plain_token c.in-Some.index c.args.error.now.statement.symbols.items,
       ← tokens,
     )
     c.last_among.ensures

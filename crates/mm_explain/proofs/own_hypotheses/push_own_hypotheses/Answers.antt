@@ -4,7 +4,7 @@ use Rattle.std.proofs.lemmas.List.{length-map}
 use Rattle.std.proofs.lemmas.Result.{on_ok_weaker}
 use Rattle.mm_base.specs.Token.{plain_token}
 use Rattle.mm_frame.specs.declared.hypothesis.Hypothesis.{Hypothesis}
-use Rattle.mm_facts.proofs.ApartDetails.{none_in, some_in}
+use Rattle.mm_facts.proofs.DisjointDetails.{none_in, some_in}
 use Rattle.mm_explain.proofs.InnermostBlocks.{empty_list}
 use Rattle.mm_explain.proofs.OwnHypotheses.{own_frame, no_hypotheses, some_hypotheses}
 use Rattle.mm_explain.proofs.own_hypotheses.push_own_hypotheses.Goals as goal

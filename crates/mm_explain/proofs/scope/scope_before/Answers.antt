@@ -1,6 +1,6 @@
 -- The statements that were passed are those before the site.
 use Rattle.std.proofs.Common.{◌∷◌, ◌++◌}
-use Rattle.mm_explain.proofs.Breaches.{taken_at}
+use Rattle.mm_explain.proofs.SemanticErrors.{taken_at}
 use Rattle.mm_explain.proofs.scope.scope_before.Goals as goal
 
 pub returns : goal.returns

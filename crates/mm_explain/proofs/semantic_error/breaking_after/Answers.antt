@@ -8,9 +8,9 @@ use Rattle.mm_base.specs.Token.{plain_token}
 use Rattle.mm_frame.specs.Breaking.{BreaksAt}
 use Rattle.mm_frame.specs.Sentence.{sentence_of}
 use Rattle.mm_frame.proofs.BookLists.Declarations.{bytes_enough}
-use Rattle.mm_explain.specs.Mirror.Breaches.{Site}
+use Rattle.mm_explain.specs.Mirror.SemanticErrors.{Site}
 use Rattle.mm_rules.specs.Verdict.{sentences}
-use Rattle.mm_explain.proofs.Breaches.{past_counted, site_left, site_read}
+use Rattle.mm_explain.proofs.SemanticErrors.{past_counted, site_left, site_read}
 use Rattle.mm_verdict.proofs.Verdicts.AcceptedStatements.{has_room}
 use Rattle.mm_explain.proofs.semantic_error.breaking_after.Goals as goal
 

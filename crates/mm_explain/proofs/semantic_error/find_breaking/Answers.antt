@@ -1,7 +1,7 @@
 -- Nothing was taken yet where the progress begins.
 use Rattle.std.proofs.Common.{map}
 use Rattle.mm_text.specs.Files.{plain_file}
-use Rattle.mm_explain.proofs.Breaches.{read_none}
+use Rattle.mm_explain.proofs.SemanticErrors.{read_none}
 use Rattle.mm_explain.proofs.semantic_error.find_breaking.Goals as goal
 
 pub breaking_after-index-requires-clause-read : goal.breaking_after-index-requires-clause-read

@@ -1,7 +1,7 @@
 -- The next statement stands before the site, so it breaks no rule of meaning.
 use Rattle.std.proofs.Common.{map, arith}
 use Rattle.mm_text.specs.Files.{plain_file}
-use Rattle.mm_explain.proofs.Breaches.{meant_next}
+use Rattle.mm_explain.proofs.SemanticErrors.{meant_next}
 use Rattle.mm_explain.proofs.semantic_error.take_before.Goals as goal
 
 pub take_next-requires-clause-next : goal.take_next-requires-clause-next

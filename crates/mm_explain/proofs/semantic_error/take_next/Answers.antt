@@ -3,7 +3,7 @@ use Rattle.std.proofs.Common.{map, arith}
 use Rattle.mm_text.specs.Files.{plain_file}
 use Rattle.mm_base.specs.Statement.{plain_statement}
 use Rattle.mm_verdict.specs.Mirror.Judged.{IsRead}
-use Rattle.mm_explain.proofs.Breaches.{read_more}
+use Rattle.mm_explain.proofs.SemanticErrors.{read_more}
 use Rattle.mm_verdict.proofs.Verdicts.AcceptedStatements.{closes, has_room, few}
 use Rattle.mm_explain.proofs.semantic_error.take_next.Goals as goal
 

@@ -1,17 +1,19 @@
 -- The line tells the fault, and what follows explains it: its place, and the facts.
-use Rattle.std.proofs.Common.{ℕ, List, []}
+use Rattle.std.proofs.Common.{ℕ, List, [], length}
 use Rattle.std.proofs.Common.{◌∷◌, ◌++◌, None, ap, subst, take, ◌∙◌}
+use Rattle.mm_base.specs.Token.{PlainToken}
 use Rattle.mm_text.specs.Files.{PlainFile, plain_file}
-use Rattle.mm_code.specs.Layout.{texts}
+use Rattle.mm_step.specs.Plain.{token_texts}
 use Rattle.mm_frame.specs.Sentence.{Sentence}
 use Rattle.mm_step.specs.declared.profile.Profile.TheVariants.{Lenient}
 use Rattle.mm_rules.specs.declared.rule.Rule.TheVariants as rules
 use Rattle.mm_facts.specs.Explained.{AreDetails, IsTokensFault, details_text}
+use Rattle.mm_facts.specs.Why.{IsPlaceAmong}
 use Rattle.mm_explain.specs.Why.{head_at}
 use Rattle.mm_explain.proofs.trial.fault_reply.Goals as goal
 
-pub place_in-requires-clause-cause : goal.place_in-requires-clause-cause
-place_in-requires-clause-cause c =
+pub place_among-at-requires-clause-cause : goal.place_among-at-requires-clause-cause
+place_among-at-requires-clause-cause c =
     let (index, s, number) = c.requires.proof in (
       Lenient,
       c.args.book.now.statements,
@@ -26,7 +28,7 @@ place_in-requires-clause-cause c =
 
 pub push_cause-requires-clause-cause : goal.push_cause-requires-clause-cause
 push_cause-requires-clause-cause c =
-    (texts c.args.tokens.now, c.args.fault.1, c.in_ok-cause.ensures)
+    (token_texts c.args.tokens.now, c.args.fault.1, c.in_ok-cause.ensures)
 
 pub returns : goal.returns
 returns c = λ index s number.
@@ -34,8 +36,8 @@ returns c = λ index s number.
     let proof : PlainFile = plain_file c.args.proof.now in
     let rule = c.args.fault.0 in
     let step = c.args.fault.1 in
-    let tokens : List (List ℕ) = texts c.args.tokens.now in
-    let head = head_at (proof ∷ []) 0 c.in_ok-at.at (rules.Proof rule) None step in
+    let tokens : List (List ℕ) = token_texts c.args.tokens.now in
+    let head = head_at (proof ∷ []) 0 c.place_among-at.result (rules.Proof rule) None step in
     let told = c.in_ok-push_cause.ensures tokens step c.in_ok-cause.ensures index s number in
     record {
       rule = rule;
@@ -44,9 +46,13 @@ returns c = λ index s number.
           c.requires.tokens (c.requires.fault index s number);
       line = c.in_ok-text.text.items;
       told = (c.in_ok-text.ensures, c.text_status.ensures);
-      at = c.in_ok-at.at;
-      place = c.in_ok-at.ensures Lenient st c.args.id.0 index s rule step number
-          c.in_ok-cause.ensures;
+      at = c.place_among-at.result;
+      place = subst
+          (λ (tokens : List PlainToken). IsPlaceAmong Lenient (take index st) s tokens
+          (length proof.bytes) rule step c.place_among-at.result)
+          c.requires.places
+          (c.place_among-at.ensures Lenient st c.args.id.0 index s rule step number
+          c.in_ok-cause.ensures);
       details = told.0;
       explained = subst
           (λ (ts : List (List ℕ)). AreDetails Lenient (take index st) s ts rule step told.0)

@@ -1,7 +1,7 @@
 -- What the steps come to, the tokens come to.
 use Rattle.std.proofs.Common.{◌≡◌, ℕ, List, Bool, true, false, Err, ap, refl, sym, subst, take}
 use Rattle.std.proofs.Common.{◌∙◌}
-use Rattle.mm_code.specs.Layout.{texts}
+use Rattle.mm_step.specs.Plain.{token_texts}
 use Rattle.mm_frame.specs.Sentence.{Sentence}
 use Rattle.mm_proof.specs.Tokens.{is_incomplete}
 use Rattle.mm_base.proofs.Lists.{error_keeps}
@@ -12,7 +12,7 @@ use Rattle.mm_explain.proofs.trial.try_tokens.Goals as goal
 pub returns-in_err-_used-clause-fault : goal.returns-in_err-_used-clause-fault
 returns-in_err-_used-clause-fault c =
     let st : List Sentence = c.args.book.now.statements in
-    let tokens : List (List ℕ) = texts c.args.tokens.now in
+    let tokens : List (List ℕ) = token_texts c.args.tokens.now in
     let read = c.in_ok-steps.ensures in
     error_keeps c.from_residual-in_err-_used.result c.in_err-_used.field-0.0 _
     c.from_residual-in_err-_used.ensures.1
@@ -28,7 +28,7 @@ returns-in_err-_used-clause-fault c =
 pub returns-then-is_prefix-clause-tried : goal.returns-then-is_prefix-clause-tried
 returns-then-is_prefix-clause-tried c = λ index s number.
     let st : List Sentence = c.args.book.now.statements in
-    let tokens : List (List ℕ) = texts c.args.tokens.now in
+    let tokens : List (List ℕ) = token_texts c.args.tokens.now in
     let read = c.in_ok-steps.ensures in
     let said = read.said index s number in
     let prefix : c.in_ok-steps.steps.prefix ≡ true =
@@ -44,7 +44,7 @@ returns-then-is_prefix-clause-tried c = λ index s number.
 pub returns-clause-tried : goal.returns-clause-tried
 returns-clause-tried c = λ index s number.
     let st : List Sentence = c.args.book.now.statements in
-    let tokens : List (List ℕ) = texts c.args.tokens.now in
+    let tokens : List (List ℕ) = token_texts c.args.tokens.now in
     let read = c.in_ok-steps.ensures in
     let said = read.said index s number in
     let prefix : c.in_ok-steps.steps.prefix ≡ false =

@@ -1,5 +1,5 @@
 -- Where no refusal is kept, the files are accepted; else all are told.
-use Rattle.std.proofs.Common.{◌≡◌, List, [], ◌∷◌, ◌++◌, false, map, sym, ap, ◌∙◌, append-nil}
+use Rattle.std.proofs.Common.{◌≡◌, List, [], ◌∷◌, ◌++◌, false, map, sym, ap, ◌∙◌, append-nil, refl}
 use Rattle.std.proofs.Common.{inl, inr}
 use Rattle.std.proofs.Common.{arith, length-append}
 use Rattle.mm_text.specs.Files.{PlainFile, plain_file}
@@ -25,7 +25,8 @@ returns-in-Ok-clause-why c =
     reasons.text.items c.tell_more.new.self.text.items c.tell_more.new.self.text.items
     c.in_ok-text-in-Ok.text.items (number_of c.in_ok-text-in-Ok.status)
     (rw (append-nil v.listed) v.faults) v.seen.kept v.seen.explained tt
-    (rw v.seen.same_profile at c.in_ok-tell_more-in-Ok.ensures.text) [] tt (sym (append-nil _)) c.tell_more.new.self.refusals.items
+    (rw v.seen.same_profile at c.in_ok-tell_more-in-Ok.ensures.text) [] tt refl
+    c.tell_more.new.self.refusals.items
     (ap (λ r. r.items) c.in_ok-tell_more-in-Ok.ensures.kept ∙ sym (append-nil _))
     (rw c.in_ok-tell_more-in-Ok.ensures.kept
     (some_there reasons.refusals (sym c.if-is_empty.ensures)))

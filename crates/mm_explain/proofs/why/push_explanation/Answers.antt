@@ -1,12 +1,13 @@
 -- The proof at fault is that of the statement, and the text its head and the facts.
-use Rattle.std.proofs.Common.{ℕ, List, ◌++◌, ◌-◌, map, length, ap, refl, sym, subst, ◌∙◌}
+use Rattle.std.proofs.Common.{ℕ, List, ◌++◌, ◌-◌, map, length, ap, refl, subst, ◌∙◌}
 use Rattle.std.specs.Prelude.{option_map}
 use Rattle.mm_base.specs.Statement.{plain_statement}
 use Rattle.mm_text.specs.Files.{PlainFile, plain_file}
 use Rattle.mm_frame.specs.Sentence.{sentence_of}
-use Rattle.mm_code.specs.Layout.{texts}
+use Rattle.mm_step.specs.Plain.{token_texts}
 use Rattle.mm_rules.specs.Answer.{plain_refusal}
-use Rattle.mm_rules.specs.Verdict.{sentences}
+use Rattle.mm_rules.specs.Verdict.{proof_of, sentences}
+use Rattle.mm_rules.proofs.Judgements.JudgedProofs.{texts_of}
 use Rattle.mm_explain.specs.Why.{head_text}
 use Rattle.mm_facts.specs.Explained.{details_text}
 use Rattle.mm_facts.specs.Mirror.Explaining.{IsCauseOf}
@@ -24,30 +25,28 @@ cause_of-requires-clause-proof c =
 
 pub cause_of-requires-clause-room : goal.cause_of-requires-clause-room
 cause_of-requires-clause-room c =
-    proof_in_room c.requires.refused (texts c.deref.result.now)
-    (ap texts c.deref.ensures.value ∙ c.in_ok-tokens.ensures)
+    proof_in_room c.requires.refused (token_texts c.deref.result.now)
+    (ap token_texts c.deref.ensures.value ∙ texts_of c.args.statement.now.proof.items)
 
 pub cause_of-requires-clause-fault : goal.cause_of-requires-clause-fault
 cause_of-requires-clause-fault c =
     let r = c.requires.refused in
     fault_there r c.last_number-id.result.0
-    (c.last_number-id.ensures (sentences r.before) (told_parts r)) (texts c.deref.result.now)
-    (ap texts c.deref.ensures.value ∙ c.in_ok-tokens.ensures) c.fault_in-fault.result.0
+    (c.last_number-id.ensures (sentences r.before) (told_parts r)) (token_texts c.deref.result.now)
+    (ap token_texts c.deref.ensures.value ∙ texts_of c.args.statement.now.proof.items)
+    c.fault_in-fault.result.0
     c.fault_in-fault.result.1 c.fault_in-fault.ensures.rule c.fault_in-fault.ensures.step
-
-pub fault_place-requires-clause-tokens : goal.fault_place-requires-clause-tokens
-fault_place-requires-clause-tokens c =
-    ap texts c.deref-2.ensures.value ∙ c.in_ok-tokens.ensures
 
 pub fault_place-requires-clause-room : goal.fault_place-requires-clause-room
 fault_place-requires-clause-room c =
-    proof_in_room c.requires.refused (texts c.deref-2.result.now)
-    (ap texts c.deref-2.ensures.value ∙ c.in_ok-tokens.ensures)
+    let s = plain_statement c.args.statement.now in
+    proof_in_room c.requires.refused (proof_of s) refl
 
 pub fault_place-requires-clause-cause : goal.fault_place-requires-clause-cause
 fault_place-requires-clause-cause c =
     let r = c.requires.refused in
-    let same = ap texts (c.deref.ensures.value ∙ sym c.deref-2.ensures.value) in (
+    let same = ap token_texts c.deref.ensures.value
+    ∙ texts_of c.args.statement.now.proof.items in (
       c.args.profile,
       c.args.book.now.statements,
       c.last_number-id.result.0,
@@ -72,7 +71,7 @@ push_cause-requires-clause-proof c =
 
 pub push_cause-requires-clause-cause : goal.push_cause-requires-clause-cause
 push_cause-requires-clause-cause c =
-    (texts c.deref.result.now, c.fault_in-fault.result.1, c.in_ok-cause.ensures)
+    (token_texts c.deref.result.now, c.fault_in-fault.result.1, c.in_ok-cause.ensures)
 
 pub push_hypothesis_places-requires : goal.push_hypothesis_places-requires
 push_hypothesis_places-requires c =
@@ -88,7 +87,7 @@ unknown_label-requires c =
       c.last_number-id.result.0,
       length (sentences r.before),
       sentence_of (plain_statement c.args.statement.now),
-      texts c.deref.result.now,
+      token_texts c.deref.result.now,
       c.fault_in-fault.result.1,
       c.last_number-id.ensures (sentences r.before) (told_parts r),
       c.in_ok-cause.ensures,
@@ -102,25 +101,23 @@ returns c =
     let id = c.last_number-id.result.0 in
     let rule = c.fault_in-fault.result.0 in
     let step = c.fault_in-fault.result.1 in
-    let tokens = texts c.deref.result.now in
+    let tokens = token_texts c.deref.result.now in
     let index = length (sentences r.before) in
     let s = plain_statement c.args.statement.now in
     let mine = c.last_number-id.ensures (sentences r.before) (told_parts r) in
-    let same = ap texts (c.deref.ensures.value ∙ sym c.deref-2.ensures.value) in
+    let own = ap token_texts c.deref.ensures.value ∙ texts_of c.args.statement.now.proof.items in
     let caused = c.in_ok-cause.ensures in
-    let place = c.fault_place.ensures c.args.profile st id index rule step mine
-    (subst
-    (λ (ts : List (List ℕ)). IsCauseOf c.args.profile st id ts rule step c.in_ok-cause.cause) same
-    caused) in
+    let own_cause =
+    subst
+    (λ (ts : List (List ℕ)). IsCauseOf c.args.profile st id ts rule step c.in_ok-cause.cause) own
+    caused in
+    let place = c.fault_place.ensures c.args.profile st id index rule step mine own_cause in
     let placed = refused_place r id (c.args.refusal.now.statement - 1) refl mine in
-    let own = ap texts c.deref.ensures.value ∙ c.in_ok-tokens.ensures in
     let (details, facts, put) =
     c.in_ok-push_cause.ensures tokens step caused index (sentence_of s) mine in
     let head = head_text files c.fault_place.result (plain_refusal c.args.refusal.now) in
     let (places, stand, more) = c.in_ok-push_hypothesis_places.ensures placed c.args.profile step
-    (subst
-    (λ (ts : List (List ℕ)). IsCauseOf c.args.profile st id ts rule step c.in_ok-cause.cause) own
-    caused) in (
+    own_cause in (
       head ++ details_text (details ++ places),
       explained_there r id mine tokens own rule step c.fault_in-fault.ensures.rule
           c.fault_in-fault.ensures.step c.fault_place.result place details facts places stand

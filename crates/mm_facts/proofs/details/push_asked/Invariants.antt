@@ -15,4 +15,5 @@ invariant-loop-index l =
     → (h : HaltsProof limit l.book.statements (take index l.book.statements) s prefix moves l.halt)
     → IsNumberedMove l.book.statements (name l.label.0) (name label)
     → (m : MeetsHypotheses (take index l.book.statements) h.there.stack label)
-    → AskedSoFar (take index l.book.statements) h.there.stack h.there.makers label m l.index l.fn.out.items l.out.items
+    → AskedSoFar l.unmet (take index l.book.statements) h.there.stack h.there.origins label m
+    l.index l.fn.out.items l.out.items

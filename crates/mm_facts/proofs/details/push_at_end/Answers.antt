@@ -32,5 +32,5 @@ pub returns-in_default : goal.returns-in_default
 returns-in_default c =
     on_ok_weaker c.push_entries.result
     (λ told limit. adds_as limit c.args.book.now.statements c.args.id.0 c.args.halt.now _ _ c.args.out.now.items c.push_entries.new.out.items
-    (λ before s stack kept makers left details. end_other s stack makers c.args.rule details c.in_default.not-P14) (told limit))
+    (λ before s stack kept origins left details. end_other s stack origins c.args.rule details c.in_default.not-P14) (told limit))
     c.push_entries.ensures

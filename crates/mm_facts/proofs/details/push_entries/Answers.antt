@@ -15,7 +15,7 @@ loop-index-preserved c = λ limit before s prefix moves h.
     let i = c.index.ensures in
     entry_told limit c.args.book.now.statements before s prefix moves c.args.halt.now h c.loop-index.index
     c.index.result.now _ c.args.out.now.items c.loop-index.out.items c.push_given.new.out.items
-    c.entry.ensures.entry (slice_get-get_or c.args.halt.now.makers.items c.loop-index.index c.index.result.now (let e = c.len-index-end.ensures in let k = c.loop-index-test.true in omega arith) ∙ ap Some (sym c.index.ensures)) (c.loop-index.invariant limit before s prefix moves h) c.in_ok-push_given.ensures
+    c.entry.ensures.entry (slice_get-get_or c.args.halt.now.origins.items c.loop-index.index c.index.result.now (let e = c.len-index-end.ensures in let k = c.loop-index-test.true in omega arith) ∙ ap Some (sym c.index.ensures)) (c.loop-index.invariant limit before s prefix moves h) c.in_ok-push_given.ensures
 
 pub returns : goal.returns
 returns c = λ limit index s prefix moves number h. (

@@ -11,4 +11,4 @@ invariant-loop-index l =
     (limit : ℕ) (before : List Sentence) (s : Sentence) (prefix : Bool) (moves : List (Move (List ℕ)))
     → (h : HaltsProof limit l.book.statements before s prefix moves l.halt)
     → l.out.items ≡ l.fn.out.items
-    ++ details_text (entries_given (take l.index h.there.makers) (take l.index h.there.stack))
+    ++ details_text (entries_given (take l.index h.there.origins) (take l.index h.there.stack))

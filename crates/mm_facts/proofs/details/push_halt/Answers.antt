@@ -21,7 +21,7 @@ returns-in-End c =
     let facts = told (limit_of c.args.profile) index s prefix moves number h in (
       facts.0,
       subst (λ (l : List (Move (List ℕ))). AreHaltDetails (limit_of c.args.profile) (take index c.args.book.now.statements) s h.there.stack h.there.kept
-          h.there.makers l c.args.rule facts.0) (sym left) facts.1,
+          h.there.origins l c.args.rule facts.0) (sym left) facts.1,
       facts.2,
     ))
     c.push_at_end.ensures
@@ -33,7 +33,7 @@ returns-in-Label c =
     let facts = told index s prefix moves number h in (
       facts.0,
       subst (λ (l : List (Move (List ℕ))). AreHaltDetails (limit_of c.args.profile) (take index c.args.book.now.statements) s h.there.stack h.there.kept
-          h.there.makers l c.args.rule facts.0) (sym facts.1.2) facts.1.3,
+          h.there.origins l c.args.rule facts.0) (sym facts.1.2) facts.1.3,
       facts.2,
     ))
     c.push_at_label.ensures
@@ -48,7 +48,7 @@ returns-in-Tag c =
     let kept : c.args.halt.now.passed - c.args.halt.now.steps ≡ length h.there.kept = omega (arith, count) in (
       mark_asked (tag + 1) (length h.there.kept) ∷ [],
       subst (λ (l : List (Move (List ℕ))). AreHaltDetails (limit_of c.args.profile) (take index c.args.book.now.statements) s h.there.stack h.there.kept
-          h.there.makers l c.args.rule (mark_asked (tag + 1) (length h.there.kept) ∷ [])) (sym left.1) refl,
+          h.there.origins l c.args.rule (mark_asked (tag + 1) (length h.there.kept) ∷ [])) (sym left.1) refl,
       one_told c.args.out.now.items c.push_marks.new.out.items (mark_asked (tag + 1) (length h.there.kept))
           (told ∙ ap (λ (n : ℕ). c.args.out.now.items ++ detail_text (mark_asked (tag + 1) n)) kept),
     ))
@@ -59,6 +59,6 @@ returns-in-Mark c = λ index s prefix moves number h.
     let left = mark_left c.args.book.now.statements h.there.left c.args.halt.now.at c.in-Mark.is h.place in (
       [],
       subst (λ (l : List (Move (List ℕ))). AreHaltDetails (limit_of c.args.profile) (take index c.args.book.now.statements) s h.there.stack h.there.kept
-          h.there.makers l c.args.rule []) (sym left.1) refl,
+          h.there.origins l c.args.rule []) (sym left.1) refl,
       sym (append-nil c.args.out.now.items),
     )

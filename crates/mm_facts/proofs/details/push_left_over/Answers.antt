@@ -1,7 +1,7 @@
 -- The moves of the known prefix stop by no rule, and what they leave is told.
 use Rattle.std.proofs.Common.{None, take, ◌++◌, ◌∷◌, [], unwrap_or, refl}
 use Rattle.std.proofs.lemmas.Result.{on_ok_weaker}
-use Rattle.mm_code.specs.Layout.{texts}
+use Rattle.mm_step.specs.Plain.{token_texts}
 use Rattle.mm_frame.specs.Numbers.{symbols_of}
 use Rattle.mm_frame.proofs.Rules.ObeyedRules.{allformed_prefix, allmeant_prefix}
 use Rattle.mm_step.specs.Profiles.{limit_of}
@@ -16,12 +16,12 @@ use Rattle.mm_facts.proofs.details.push_left_over.Goals as goal
 
 pub steps_of-requires-clause-whole : goal.steps_of-requires-clause-whole
 steps_of-requires-clause-whole c = λ index s proof.
-    allowed_whole c.args.profile (take index c.args.book.now.statements) s (texts c.args.tokens.now) c.requires.incomplete (c.requires.allowed index s proof)
+    allowed_whole c.args.profile (take index c.args.book.now.statements) s (token_texts c.args.tokens.now) c.requires.incomplete (c.requires.allowed index s proof)
 
 pub push_entries-requires : goal.push_entries-requires
 push_entries-requires c =
     let st = c.args.book.now.statements in
-    let tokens = texts c.args.tokens.now in
+    let tokens = token_texts c.args.tokens.now in
     let p = c.requires.proof in
     let found = found_halt c.args.profile st c.args.id.0 tokens c.in_ok-steps.steps c.in_ok-halt.halt c.in_ok-steps.ensures c.in_ok-halt.ensures.halted p.0 p.1 p.2 in (
       limit_of c.args.profile,
@@ -44,7 +44,7 @@ push_stated-requires c =
 pub returns : goal.returns
 returns c =
     let st = c.args.book.now.statements in
-    let tokens = texts c.args.tokens.now in
+    let tokens = token_texts c.args.tokens.now in
     let sound = c.frame-own.ensures.sound in
     on_ok_weaker c.push_stated.result
     (λ told index s proof.
@@ -52,7 +52,7 @@ returns c =
     let none = found_none c.args.profile st (take index st) s tokens c.in_ok-halt.halt (allmeant_prefix st index sound.0) (allformed_prefix st index sound.1)
     c.requires.incomplete (c.requires.allowed index s proof) found in
     let entries = c.in_ok-push_entries.ensures (limit_of c.args.profile) index s (is_incomplete tokens) found.moves proof found.halts in
-    let given = entries_given found.halts.there.makers found.halts.there.stack in
+    let given = entries_given found.halts.there.origins found.halts.there.stack in
     let there = numbered_get st c.args.id.0 index s proof.numbered in (
       given ++ hypothesis_stated (unwrap_or s.label []) s.symbols ∷ [],
       (tokens_halt c.args.profile st (take index st) s tokens c.in_ok-halt.halt None none found, refl),

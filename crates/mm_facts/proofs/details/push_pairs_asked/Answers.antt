@@ -36,12 +36,12 @@ overflow_sub-base c =
     let z = sizes c.requires.halt.0 st own.index own.s own.prefix own.moves c.args.halt.now own.halts c.requires.sound.0
     c.args.label.0 c.frame-frame.result c.frame-frame.ensures.book c.frame-frame.ensures.index.0 c.frame-frame.ensures.index.1 c.frame-frame.ensures.index.2
     c.hypotheses.result.now c.hypotheses.ensures.ids step.label step.numbered m in
-    let long : vec_len c.args.halt.now.makers ≡ length c.args.halt.now.makers.items = search rules in
-    let makers = z.makers in
+    let long : vec_len c.args.halt.now.origins ≡ length c.args.halt.now.origins.items = search rules in
+    let origins = z.origins in
     omega (arith, c.len.ensures)
 
-pub push_apart_pairs-requires-clause-entries : goal.push_apart_pairs-requires-clause-entries
-push_apart_pairs-requires-clause-entries c =
+pub push_disjoint_pairs-requires-clause-entries : goal.push_disjoint_pairs-requires-clause-entries
+push_disjoint_pairs-requires-clause-entries c =
     let st = c.args.book.now.statements in
     let own = c.requires.halt.1 in
     let step = step_left st own.halts.there.left c.args.halt.now.at c.args.label c.requires.place own.halts.place in
@@ -49,13 +49,13 @@ push_apart_pairs-requires-clause-entries c =
     let z = sizes c.requires.halt.0 st own.index own.s own.prefix own.moves c.args.halt.now own.halts c.requires.sound.0
     c.args.label.0 c.frame-frame.result c.frame-frame.ensures.book c.frame-frame.ensures.index.0 c.frame-frame.ensures.index.1 c.frame-frame.ensures.index.2
     c.hypotheses.result.now c.hypotheses.ensures.ids step.label step.numbered m in
-    let long : vec_len c.args.halt.now.makers ≡ length c.args.halt.now.makers.items = search rules in
-    let makers = z.makers in
+    let long : vec_len c.args.halt.now.origins ≡ length c.args.halt.now.origins.items = search rules in
+    let origins = z.origins in
     let es = c.in_ok-entries.entries.items in
     let base : ℕ = c.len.result - length c.hypotheses.result.now in
     let many = count_entries es in
-    let sum : base + length c.hypotheses.result.now ≡ length c.args.halt.now.makers.items = omega (arith, c.len.ensures) in
-    let count : base + length (entries_in es) ≡ length c.args.halt.now.makers.items = omega (arith, c.in_ok-entries.ensures.count) in
+    let sum : base + length c.hypotheses.result.now ≡ length c.args.halt.now.origins.items = omega (arith, c.len.ensures) in
+    let count : base + length (entries_in es) ≡ length c.args.halt.now.origins.items = omega (arith, c.in_ok-entries.ensures.count) in
     let scene = apart_step c.requires.halt.0 st own.index own.s own.prefix own.moves c.args.halt.now own.halts c.requires.sound.0 c.args.label.0 c.frame-frame.result
     c.frame-frame.ensures.book c.frame-frame.ensures.index.0 c.frame-frame.ensures.index.1 c.frame-frame.ensures.index.2
     c.hypotheses.result.now c.hypotheses.ensures.ids c.pairs.result.now c.pairs.ensures.variables c.pairs.ensures.indices
@@ -68,8 +68,8 @@ push_apart_pairs-requires-clause-entries c =
       scene.declared,
     )
 
-pub push_apart_pairs-requires-clause-pairs : goal.push_apart_pairs-requires-clause-pairs
-push_apart_pairs-requires-clause-pairs c = λ i p there.
+pub push_disjoint_pairs-requires-clause-pairs : goal.push_disjoint_pairs-requires-clause-pairs
+push_disjoint_pairs-requires-clause-pairs c = λ i p there.
     let st = c.args.book.now.statements in
     let own = c.requires.halt.1 in
     let step = step_left st own.halts.there.left c.args.halt.now.at c.args.label c.requires.place own.halts.place in
@@ -77,13 +77,13 @@ push_apart_pairs-requires-clause-pairs c = λ i p there.
     let z = sizes c.requires.halt.0 st own.index own.s own.prefix own.moves c.args.halt.now own.halts c.requires.sound.0
     c.args.label.0 c.frame-frame.result c.frame-frame.ensures.book c.frame-frame.ensures.index.0 c.frame-frame.ensures.index.1 c.frame-frame.ensures.index.2
     c.hypotheses.result.now c.hypotheses.ensures.ids step.label step.numbered m in
-    let long : vec_len c.args.halt.now.makers ≡ length c.args.halt.now.makers.items = search rules in
-    let makers = z.makers in
+    let long : vec_len c.args.halt.now.origins ≡ length c.args.halt.now.origins.items = search rules in
+    let origins = z.origins in
     let es = c.in_ok-entries.entries.items in
     let base : ℕ = c.len.result - length c.hypotheses.result.now in
     let many = count_entries es in
-    let sum : base + length c.hypotheses.result.now ≡ length c.args.halt.now.makers.items = omega (arith, c.len.ensures) in
-    let count : base + length (entries_in es) ≡ length c.args.halt.now.makers.items = omega (arith, c.in_ok-entries.ensures.count) in
+    let sum : base + length c.hypotheses.result.now ≡ length c.args.halt.now.origins.items = omega (arith, c.len.ensures) in
+    let count : base + length (entries_in es) ≡ length c.args.halt.now.origins.items = omega (arith, c.in_ok-entries.ensures.count) in
     let scene = apart_step c.requires.halt.0 st own.index own.s own.prefix own.moves c.args.halt.now own.halts c.requires.sound.0 c.args.label.0 c.frame-frame.result
     c.frame-frame.ensures.book c.frame-frame.ensures.index.0 c.frame-frame.ensures.index.1 c.frame-frame.ensures.index.2
     c.hypotheses.result.now c.hypotheses.ensures.ids c.pairs.result.now c.pairs.ensures.variables c.pairs.ensures.indices
@@ -92,12 +92,12 @@ push_apart_pairs-requires-clause-pairs c = λ i p there.
     let size : length c.hypotheses.result.now ≡ length c.deref.result.now = omega arith in
     subst (λ (n : ℕ). IsPairWithin st n p) size (scene.within i p there)
 
-pub push_apart_pairs-requires-clause-different : goal.push_apart_pairs-requires-clause-different
-push_apart_pairs-requires-clause-different c = c.pairs.ensures.variables.once
+pub push_disjoint_pairs-requires-clause-different : goal.push_disjoint_pairs-requires-clause-different
+push_disjoint_pairs-requires-clause-different c = c.pairs.ensures.variables.once
 
 pub returns : goal.returns
 returns c =
-    on_ok_weaker c.push_apart_pairs.result
+    on_ok_weaker c.push_disjoint_pairs.result
     (λ added limit index s prefix moves number h.
     let st = c.args.book.now.statements in
     let step = step_left st h.there.left c.args.halt.now.at c.args.label c.requires.place h.place in
@@ -105,13 +105,13 @@ returns c =
     let z = sizes limit st index s prefix moves c.args.halt.now h c.requires.sound.0
     c.args.label.0 c.frame-frame.result c.frame-frame.ensures.book c.frame-frame.ensures.index.0 c.frame-frame.ensures.index.1 c.frame-frame.ensures.index.2
     c.hypotheses.result.now c.hypotheses.ensures.ids step.label step.numbered m in
-    let long : vec_len c.args.halt.now.makers ≡ length c.args.halt.now.makers.items = search rules in
-    let makers = z.makers in
+    let long : vec_len c.args.halt.now.origins ≡ length c.args.halt.now.origins.items = search rules in
+    let origins = z.origins in
     let es = c.in_ok-entries.entries.items in
     let base : ℕ = c.len.result - length c.hypotheses.result.now in
     let many = count_entries es in
-    let sum : base + length c.hypotheses.result.now ≡ length c.args.halt.now.makers.items = omega (arith, c.len.ensures) in
-    let count : base + length (entries_in es) ≡ length c.args.halt.now.makers.items = omega (arith, c.in_ok-entries.ensures.count) in
+    let sum : base + length c.hypotheses.result.now ≡ length c.args.halt.now.origins.items = omega (arith, c.len.ensures) in
+    let count : base + length (entries_in es) ≡ length c.args.halt.now.origins.items = omega (arith, c.in_ok-entries.ensures.count) in
     let scene = apart_step limit st index s prefix moves c.args.halt.now h c.requires.sound.0 c.args.label.0 c.frame-frame.result
     c.frame-frame.ensures.book c.frame-frame.ensures.index.0 c.frame-frame.ensures.index.1 c.frame-frame.ensures.index.2
     c.hypotheses.result.now c.hypotheses.ensures.ids c.pairs.result.now c.pairs.ensures.variables c.pairs.ensures.indices
@@ -151,4 +151,4 @@ returns c =
       ),
       told.2,
     ))
-    c.push_apart_pairs.ensures
+    c.push_disjoint_pairs.ensures

@@ -35,12 +35,12 @@ returns c =
     broken.0 broken.1 broken.2 broken.3 in
     let entries = told limit index s prefix moves number h in
     let many : length xs ≡ length are.hypotheses = sym (as_many st xs are.hypotheses are.numbered) in
-    let long : vec_len c.args.halt.now.makers ≡ length c.args.halt.now.makers.items = search rules in
-    let there : c.len.result ≡ length h.there.stack = c.len.ensures ∙ long ∙ ap length h.same_makers ∙ h.there.made.count in (
-      entry_counts (length are.hypotheses) (length h.there.stack) ∷ (hypotheses_stated are.hypotheses ++ entries_given h.there.makers h.there.stack),
+    let long : vec_len c.args.halt.now.origins ≡ length c.args.halt.now.origins.items = search rules in
+    let there : c.len.result ≡ length h.there.stack = c.len.ensures ∙ long ∙ ap length h.same_origins ∙ h.there.made.count in (
+      entry_counts (length are.hypotheses) (length h.there.stack) ∷ (hypotheses_stated are.hypotheses ++ entries_given h.there.origins h.there.stack),
       (step.label, step.more, step.first, (at, own.0, are.hypotheses, names, refl)),
       too_few c.args.out.now.items c.push_counts.new.out.items c.push_hypotheses.new.out.items c.push_entries.new.out.items
-          (length xs) c.len.result are.hypotheses h.there.makers h.there.stack entries.0 many there entries.1
+          (length xs) c.len.result are.hypotheses h.there.origins h.there.stack entries.0 many there entries.1
           c.in_ok-push_counts.ensures (c.in_ok-push_hypotheses.ensures are.hypotheses are.numbered) entries.2,
     ))
     c.push_entries.ensures

@@ -2,7 +2,7 @@
 use Rattle.std.proofs.Common.{◌≡◌, ◌⊎◌, false, Ok, Err, List, ℕ, take, ap, sym, subst, ◌∙◌, inl, inr}
 use Rattle.std.proofs.Common.{refl}
 use Rattle.std.proofs.lemmas.Bool.{false_from_ne_true}
-use Rattle.mm_code.specs.Layout.{texts}
+use Rattle.mm_step.specs.Plain.{token_texts}
 use Rattle.mm_proof.specs.Tokens.{is_incomplete}
 use Rattle.mm_proof.specs.Parsed.{SaySteps}
 use Rattle.mm_proof.specs.ReadSteps.{ReadSteps}
@@ -14,7 +14,7 @@ use Rattle.mm_facts.proofs.details.steps_of.Goals as goal
 
 pub unreachable-requires : goal.unreachable-requires
 unreachable-requires c =
-    let tokens = texts c.args.tokens.now in
+    let tokens = token_texts c.args.tokens.now in
     let p = c.requires.proof in
     let is = c.in-Err-Rule.is ∙ ap Err c.in-Err-Rule.field-0-is in
     let whole = c.requires.whole p.0 p.1 p.2 in
@@ -31,7 +31,7 @@ either (parsed.Incomplete steps) = inr (steps, refl)
 pub returns-in-Ok : goal.returns-in-Ok
 returns-in-Ok c =
     let st = c.args.book.now.statements in
-    let tokens = texts c.args.tokens.now in
+    let tokens = token_texts c.args.tokens.now in
     elim (either c.in-Ok.parsed) [
       | inl w ↦
           let (steps, of) = w in

@@ -13,7 +13,7 @@ use Rattle.mm_facts.proofs.AskedDetails.{of_own}
 use Rattle.mm_rules.proofs.Numbers.{numbers_within}
 use Rattle.mm_facts.proofs.HaltDetails.{one_told}
 use Rattle.mm_facts.proofs.LackingDetails.{as_many_pairs, both_told}
-use Rattle.mm_facts.proofs.ApartDetails.{none_in, some_in, told_none, told_some, pair_told}
+use Rattle.mm_facts.proofs.DisjointDetails.{none_in, some_in, told_none, told_some, pair_told}
 use Rattle.mm_facts.proofs.disjoint.push_lacking.Goals as goal
 
 pub returns-then-is_empty : goal.returns-then-is_empty

@@ -9,7 +9,7 @@ use Rattle.mm_step.specs.Stores.{numbers_in}
 use Rattle.mm_facts.specs.Explained.{Detail, pair_asked, shared_by_both}
 use Rattle.mm_rules.proofs.Numbers.{numbers_within}
 use Rattle.mm_facts.proofs.DetailTexts.{count_numbers}
-use Rattle.mm_facts.proofs.ApartDetails.{none_in, some_in, told_none, told_some, number_count, pair_told, shared_told}
+use Rattle.mm_facts.proofs.DisjointDetails.{none_in, some_in, told_none, told_some, number_count, pair_told, shared_told}
 use Rattle.mm_facts.proofs.disjoint.push_sharing.Goals as goal
 
 pub returns-then-is_empty : goal.returns-then-is_empty

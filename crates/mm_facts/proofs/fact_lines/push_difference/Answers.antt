@@ -12,8 +12,10 @@ pub returns : goal.returns
 returns c =
     on_ok_weaker c.push_between.result
     (λ h. three_groups c.args.out.now.items (codes "  they differ at symbol ") (decimal (c.args.index + 1)) (codes ": ")
-    (symbol_at (labels_at (symbols_of c.args.book.now.statements) (numbers_in c.args.given.now)) c.args.index) (codes " for ")
-    (symbol_at (labels_at (symbols_of c.args.book.now.statements) (numbers_in c.args.asked.now)) c.args.index) (codes "\n")
+    (symbol_at (labels_at (symbols_of c.args.book.now.statements) (numbers_in c.args.given.now))
+    c.args.index) (codes " where ")
+    (symbol_at (labels_at (symbols_of c.args.book.now.statements) (numbers_in c.args.asked.now))
+    c.args.index) (codes " is asked\n")
     c.symbol_at.result.now c.symbol_at-2.result.now
     c.push_number_between.new.out.items c.extend_from_slice.new.self.items c.push_between.new.out.items
     c.symbol_at.ensures c.symbol_at-2.ensures c.in_ok-push_number_between.ensures c.in_ok-extend_from_slice.ensures.items h)

@@ -16,4 +16,4 @@ pub returns-in-Assertion : goal.returns-in-Assertion
 returns-in-Assertion c index label below used stands =
     let st = c.args.book.now.statements in
     let of = subst (IsCallOf st index c.args.id.0) c.in-Assertion.is (c.call_of.ensures index label used) in
-    width_assertion st index c.args.id.0 label below c.in-Assertion.scheme c.requires.sound.0 used of stands
+    width_assertion st index c.args.id.0 label below c.in-Assertion.signature c.requires.sound.0 used of stands

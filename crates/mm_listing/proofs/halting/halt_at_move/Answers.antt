@@ -4,7 +4,7 @@ use Rattle.std.proofs.lemmas.Option.{slice_get-get_or}
 use Rattle.mm_code.specs.declared.code.Code.TheVariants.{Number}
 use Rattle.mm_step.specs.Mirror.Sites.{CodeSite}
 use Rattle.mm_listing.proofs.Machines.ProofHalts.{meant_before, front_made, front_named, place_there}
-use Rattle.mm_listing.proofs.Machines.ProofHalts.{no_earlier_code, halts_code, makers_count}
+use Rattle.mm_listing.proofs.Machines.ProofHalts.{no_earlier_code, halts_code, origins_count}
 use Rattle.mm_listing.proofs.halting.halt_at_move.Goals as goal
 
 pub track_codes-requires-clause-meant : goal.track_codes-requires-clause-meant
@@ -42,8 +42,8 @@ place-requires c =
 pub invariant_of-result : goal.invariant_of-result
 invariant_of-result c = record {
   made = let site = c.args.table.now.site in
-      rw c.new.ensures (makers_count site.limit site.statements site.index _ _ _
-      c.in-Ok.ensures.makers
+      rw c.new.ensures (origins_count site.limit site.statements site.index _ _ _
+      c.in-Ok.ensures.origins
       (front_named c.args.table.now.ids c.args.codes.now c.args.passed site c.requires.steps));
   few = omega (
     arith,
@@ -64,7 +64,7 @@ returns-in-Ok c =
     let within = place_there c.args.table.now.ids c.args.codes.now c.args.passed site
     c.args.rule c.requires.broken in
     halts_code site c.args.table.now.ids c.args.codes.now _ _ _ _ _ c.args.rule c.requires.site
-    c.requires.broken c.in-Ok.ensures.run refl c.new.ensures c.in-Ok.ensures.makers
+    c.requires.broken c.in-Ok.ensures.run refl c.new.ensures c.in-Ok.ensures.origins
     (slice_get-get_or c.args.codes.now c.args.passed (Number 0) within)
     (rw ids at c.place.ensures) refl
 

@@ -1,6 +1,7 @@
 use Rattle.std.proofs.Common.{rules, ◌≡◌, ◌+◌, length, Err, ap, ◌∙◌, vec_len}
 use Rattle.std.proofs.lemmas.Result.{err_from_is_err_and}
 use Rattle.mm_step.specs.Mirror.Sites.{CodeSite}
+use Rattle.mm_listing.specs.Mirror.CodeLines.{expresses}
 use Rattle.mm_proof.proofs.ProofVerdicts.JudgedMoves.{steps_made, wrong_end, wrong_move, on_rule_from}
 use Rattle.mm_listing.proofs.Machines.ListedEnd.{lists_end}
 use Rattle.mm_listing.proofs.lines.lines_in_frame.Goals as goal
@@ -39,5 +40,5 @@ returns-clause-listed g c =
     let same = ap (λ (t : CodeSite). t.site) c.table.view_is in
     let own = rw same at c.expression-expression.ensures.site in
     let symbols = rw same at c.expression-expression.ensures.symbols in
-    lists_end _ _ _ _ own.s _ _ _ _ _ _ own.proof.numbered symbols
+    lists_end _ _ _ _ own.s _ _ _ _ _ (expresses c.args.expressed) _ own.proof.numbered symbols
     c.in_ok-lines.ensures.run c.in_ok-ending.ensures.ok c.in_ok-lines.ensures.lines

@@ -1,4 +1,4 @@
-use Rattle.std.proofs.Common.{Err, ap, subst, sym}
+use Rattle.std.proofs.Common.{Err, ap, subst, sym, true}
 use Rattle.std.proofs.lemmas.List.{take-map}
 use Rattle.mm_proof.specs.Mirror.CodeSteps.{code_move, code_moves}
 use Rattle.mm_listing.specs.Mirror.CodeLines.{AreLinesAt, BreaksAt}
@@ -22,7 +22,7 @@ returns-in-Ok c =
     let ids = c.args.table.now.ids in
     let n = c.args.passed in
     front_listed site (code_moves ids c.args.codes.now) n c.requires.site c.in-Ok.lines.items
-    (subst (λ l. AreLinesAt site.statements site.index l c.in-Ok.lines.items)
+    (subst (λ l. AreLinesAt site.statements (λ step. true) site.index l c.in-Ok.lines.items)
     (sym (take-map (code_move ids) n c.args.codes.now)) c.in-Ok.ensures.lines)
 
 pub unreachable-requires : goal.unreachable-requires

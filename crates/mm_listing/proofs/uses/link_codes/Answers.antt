@@ -1,17 +1,13 @@
-use Rattle.std.proofs.Common.{rules, List, [], ◌∷◌, ◌++◌, length, take, refl, sym, ap, subst, ◌∙◌}
-use Rattle.std.proofs.Common.{arith}
-use Rattle.std.proofs.lemmas.Option.{slice_get_within}
-use Rattle.std.proofs.lemmas.List.{length-map, length-take-le}
-use Rattle.mm_base.proofs.Lists.{all_at, zip_take}
-use Rattle.mm_listing.specs.declared.lines.Line.{Line}
-use Rattle.mm_step.specs.Steps.{IsNumberedMove}
-use Rattle.mm_proof.specs.Mirror.CodeSteps.{code_move, code_moves}
+use Rattle.std.proofs.Common.{rules, List, length, refl, sym, ap, subst, ◌∙◌}
+use Rattle.std.proofs.lemmas.List.{length-map}
+use Rattle.mm_proof.specs.Mirror.CodeSteps.{code_moves}
 use Rattle.mm_step.specs.Mirror.Sites.{CodeSite}
-use Rattle.mm_listing.specs.Mirror.CodeLines.{AreLinesAt}
-use Rattle.mm_step.specs.Mirror.CodeRun.{MayBeMade}
-use Rattle.mm_proof.proofs.ProofVerdicts.JudgedMoves.{refused, judged_none, stopped_fault, first_up_to}
+use Rattle.mm_listing.specs.declared.lines.Line.{Line}
+use Rattle.mm_listing.specs.Mirror.CodeLines.{AreLinesAt, expresses}
+use Rattle.mm_proof.proofs.ProofVerdicts.JudgedMoves.{refused, judged_none, stopped_fault}
 use Rattle.mm_listing.proofs.Machines.ListedLines.{lists_none}
-use Rattle.mm_listing.proofs.Machines.StackMakers.{same_makers}
+use Rattle.mm_listing.proofs.Machines.NextMoves.{next_listed}
+use Rattle.mm_listing.proofs.Machines.StackOrigins.{same_origins}
 use Rattle.mm_listing.proofs.Machines.StepUses.{links_none}
 use Rattle.mm_listing.proofs.uses.link_codes.Goals as goal
 
@@ -24,33 +20,15 @@ run-requires-clause-begun g c =
     ∙ ap (λ (t : CodeSite). length t.ids) c.table.view_is)
     (c.in_ok-unmark.ensures.none _))
     c.new-lines.ensures.items c.new-tags.ensures.items)
-    c.requires.stack c.new-makers.ensures.items c.new-sources.ensures.items
+    c.requires.stack c.new-origins.ensures.items c.new-sources.ensures.items
     c.new-uses.ensures.items
 
 pub run-requires-clause-allowed : goal.run-requires-clause-allowed
-run-requires-clause-allowed g c index move there =
-    let site = c.args.table.now.site in
-    let moves = code_moves c.args.table.now.ids c.args.codes.now in
-    let prefix = take index moves ++ move ∷ [] in
-    let names = c.requires.names in
-    let within = slice_get_within moves index move there in (
-      (
-        all_at (MayBeMade site.statements site.index) moves index move c.requires.usable there,
-        (
-          take (length prefix) names.0,
-          rw (first_up_to moves index move there) at
-              (zip_take (IsNumberedMove site.statements) moves names.0 (length prefix) names.1),
-        ),
-        omega (
-          arith,
-          within,
-          length-map c.args.codes.now (code_move c.args.table.now.ids),
-          length-take-le index moves (omega (arith, within)),
-          c.requires.room,
-        ),
-      ),
-      c.requires.meant,
-    )
+run-requires-clause-allowed g c index move there = (
+  next_listed c.args.table.now.site c.args.table.now.ids c.args.codes.now c.requires.usable
+      c.requires.names index move there c.requires.room,
+  c.requires.meant,
+)
 
 pub returns-in_err-run-clause-fault : goal.returns-in_err-run-clause-fault
 returns-in_err-run-clause-fault g c rule at is =
@@ -62,12 +40,13 @@ pub returns-clause-lines : goal.returns-clause-lines
 returns-clause-lines g c =
     let site = c.args.table.now.site in
     let moves = code_moves c.args.table.now.ids c.args.codes.now in
-    subst (λ (lines : List Line). AreLinesAt site.statements site.index moves lines)
+    subst (λ (lines : List Line).
+    AreLinesAt site.statements (expresses c.args.expressed) site.index moves lines)
     (search rules) c.in_ok-run.ensures.ran.listed.listed
 
-pub returns-clause-makers : goal.returns-clause-makers
-returns-clause-makers g c =
+pub returns-clause-origins : goal.returns-clause-origins
+returns-clause-origins g c =
     let site = c.args.table.now.site in
     let moves = code_moves c.args.table.now.ids c.args.codes.now in
-    same_makers site.limit site.statements site.index moves _ _ _ _ c.in_ok-run.ensures.ran.made
+    same_origins site.limit site.statements site.index moves _ _ _ _ c.in_ok-run.ensures.ran.made
     (search rules) (search rules)

@@ -1,4 +1,5 @@
-use Rattle.std.proofs.Common.{rules, ◌≡◌, ◌+◌, length, Err, ap, subst, ◌∙◌, vec_len}
+use Rattle.std.proofs.Common.{rules, ◌≡◌, ◌+◌, length, Err, ap, subst, ◌∙◌, vec_len, not, ◌||◌}
+use Rattle.std.proofs.Common.{get_or, [], false}
 use Rattle.std.proofs.lemmas.Result.{err_from_is_err_and}
 use Rattle.mm_frame.proofs.Names.LabelNumbers.{numbered_unique}
 use Rattle.mm_listing.specs.Uses.{rows_of}
@@ -7,6 +8,7 @@ use Rattle.mm_step.specs.Mirror.Sites.{CodeSite}
 use Rattle.mm_listing.specs.Mirror.StepUses.{AreUsesAt}
 use Rattle.mm_proof.proofs.ProofVerdicts.JudgedMoves.{wrong_end, wrong_move, on_rule_from}
 use Rattle.mm_listing.proofs.Machines.ListedEnd.{lists_end}
+use Rattle.mm_listing.proofs.Machines.ToldLines.{lines_unless}
 use Rattle.mm_listing.proofs.Machines.ProofHalts.{meant_before, made_before}
 use Rattle.mm_listing.proofs.Machines.StepUses.{some_source, rows_long, root_of}
 use Rattle.mm_listing.proofs.uses.links_in_frame.Goals as goal
@@ -53,7 +55,7 @@ used_steps-requires-clause-some g c =
     let site = c.args.table.now.site in
     some_source site.limit site.statements site.index _ c.in_ok-links.links.sources.items
     c.in_ok-links.ensures.sources.0 (c.requires.steps.moves, c.requires.steps.numbered) _
-    c.in_ok-links.links.makers.items _ c.in_ok-links.ensures.makers c.in_ok-ending.ensures.ok
+    c.in_ok-links.links.origins.items _ c.in_ok-links.ensures.origins c.in_ok-ending.ensures.ok
 
 pub used_steps-requires-clause-long : goal.used_steps-requires-clause-long
 used_steps-requires-clause-long g c =
@@ -76,7 +78,8 @@ returns-clause-linked g c index s moves proof numbered =
     let symbols = rw same at c.expression-expression.ensures.symbols in
     let here = (numbered_unique site.statements site.number site.index index own.s s
     own.proof.numbered proof.numbered).0 in
-    let l = lists_end _ _ _ _ own.s _ _ _ _ _ _ own.proof.numbered symbols
+    let l = lists_end _ _ _ _ own.s _ _ _ _ _
+    (λ step. not c.args.essential || get_or [] step false) _ own.proof.numbered symbols
     c.in_ok-links.ensures.run c.in_ok-ending.ensures.ok c.in_ok-links.ensures.lines index s moves
     proof numbered in
     let uses = subst (λ p. AreUsesAt c.args.essential site.statements p
@@ -84,7 +87,7 @@ returns-clause-linked g c index s moves proof numbered =
     here c.in_ok-links.ensures.uses.0 in
     rw (c.used_steps.ensures.lines, c.used_steps.ensures.uses) (
       l.0,
-      l.1,
+      lines_unless c.args.essential _ _ moves _ l.1,
       uses moves numbered,
       root_of moves c.in_ok-links.links.sources.items _
           (c.in_ok-links.ensures.sources.0 moves numbered) c.used_steps.ensures.root,

@@ -9,5 +9,5 @@ minimized-requires-clause-proved g c = rw c.in_ok-shortening.ensures.database c.
 
 pub returns-clause-text : goal.returns-clause-text
 returns-clause-text g c = λ statements reads.
-    (rw c.in_ok-shortening.ensures.database at c.in_ok-minimized.ensures) c.args.label.now statements
+    (rw c.in_ok-shortening.ensures.database at c.in_ok-found.ensures.text) c.args.label.now statements
     reads (c.in_ok-theorem.ensures.read statements reads).1

@@ -2,12 +2,12 @@
 use Rattle.mm_minimize.proofs.minimize.minimized_by_library.Goals as goal
 
 pub minimized-requires-clause-steps : goal.minimized-requires-clause-steps
-minimized-requires-clause-steps c = rw c.in_ok-shortening.ensures.database c.in_ok-theorem.ensures.usable
+minimized-requires-clause-steps g c = rw c.in_ok-shortening.ensures.database c.in_ok-theorem.ensures.usable
 
 pub minimized-requires-clause-proved : goal.minimized-requires-clause-proved
-minimized-requires-clause-proved c = rw c.in_ok-shortening.ensures.database c.in_ok-theorem.ensures.proved
+minimized-requires-clause-proved g c = rw c.in_ok-shortening.ensures.database c.in_ok-theorem.ensures.proved
 
 pub returns-clause-text : goal.returns-clause-text
-returns-clause-text c = λ statements reads.
-    (rw c.in_ok-shortening.ensures.database at c.in_ok-minimized.ensures) c.args.label.now statements
+returns-clause-text g c = λ statements reads.
+    (rw c.in_ok-shortening.ensures.database at c.in_ok-text.ensures.text) c.args.label.now statements
     reads (c.in_ok-theorem.ensures.read statements reads).1

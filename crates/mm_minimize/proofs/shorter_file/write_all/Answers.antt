@@ -78,6 +78,11 @@ loop-reading-preserved g c =
             rw w.file-is (w.in_ok-write_theorem.ensures.puts.puts.same.number ∙ inv.home)
         | else-reading-wanted w ↦ rw w.file-is inv.home
       ];
+      whole = λ before. (elim c.if-reading-wanted.branch [
+        | then-reading-wanted+in_ok-write_theorem w ↦
+            rw w.search-is (w.in_ok-write_theorem.ensures.whole (inv.whole before))
+        | else-reading-wanted w ↦ rw w.search-is (inv.whole before)
+      ]);
     }
 
 pub returns-clause-written : goal.returns-clause-written

@@ -11,6 +11,7 @@ invariant-loop-reading g l = record {
   read : IsReadTo l.shortening.checked.now.files taken l.reading;
   written : IsShortenedSoFar l.shortening.checked.now l.wanted.duplicates taken l.file;
   home : l.file.number ≡ l.wanted.number;
+  whole : g.S.Search.is_whole l.fn.search → g.S.Search.is_whole l.search;
 }
 
 abbrev pub decreases-loop-reading : goal.decreases-loop-reading

@@ -32,6 +32,7 @@ loop-reading-preserved g c =
           c.list_theorem.new.list goes.2.formed goes.2.complete goes.2.number
           (listed_past c.args.shortening.now.checked.now inv.taken goes.0 c.loop-reading.list
           inv.listed) c.in_ok-list_theorem.ensures.listed;
+      whole = λ before. c.in_ok-list_theorem.ensures.whole (inv.whole before);
     }
 
 pub returns-clause-listed : goal.returns-clause-listed

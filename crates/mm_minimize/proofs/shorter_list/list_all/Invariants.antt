@@ -10,6 +10,7 @@ invariant-loop-reading g l = record {
   taken : List PlainStatement;
   read : IsReadTo l.shortening.checked.now.files taken l.reading;
   listed : IsListedSoFar l.shortening.checked.now taken l.list;
+  whole : g.S.Search.is_whole l.fn.search → g.S.Search.is_whole l.search;
 }
 
 abbrev pub decreases-loop-reading : goal.decreases-loop-reading

@@ -1,6 +1,5 @@
 -- It is a label of the list, or a mark.
 use Rattle.std.proofs.Common.{subst, arith}
-use Rattle.std.proofs.lemmas.Result.{IfOk-weaker}
 use Rattle.mm_step.specs.Plain.{token_texts}
 use Rattle.mm_proof.specs.Mirror.CodeForm.{IsLooseBy}
 use Rattle.mm_places.proofs.ProofPlaces.FormPlaces.{label_there, mark_there, mark_said, few_listed}
@@ -26,10 +25,7 @@ returns-in-Label c = λ before s by.
     (subst (IsLooseBy before s tokens) c.in-Label.is by)
 
 pub returns-in-Mark : goal.returns-in-Mark
-returns-in-Mark c =
+returns-in-Mark c = λ before s by.
     let tokens = token_texts c.args.tokens.now in
-    IfOk-weaker c.said_place.result _ _
-    (λ place at before s by.
     mark_there before s tokens c.in-Mark.number (subst (IsLooseBy before s tokens) c.in-Mark.is by)
-    place.0 place.1 at)
-    c.said_place.ensures
+    c.said_place.result.0 c.said_place.result.1 c.said_place.ensures

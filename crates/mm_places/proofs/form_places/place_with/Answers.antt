@@ -1,6 +1,5 @@
 -- Something keeps the proof from the strict form, and stands there.
 use Rattle.std.proofs.Common.{take}
-use Rattle.std.proofs.lemmas.Result.{IfOk-weaker}
 use Rattle.mm_proof.proofs.ProofNumbers.NumberedLabels.{reading_said}
 use Rattle.mm_places.proofs.form_places.place_with.Goals as goal
 
@@ -25,10 +24,8 @@ loose_place-requires c =
 pub returns : goal.returns
 returns c =
     let found = rw c.in-Some.is at c.in_ok-found.ensures in
-    IfOk-weaker c.loose_place.result _ _
-    (λ place there index s proof.
-    there (take index c.args.site.now.statements) s (found index s proof))
-    c.loose_place.ensures
+    λ index s proof.
+    c.loose_place.ensures (take index c.args.site.now.statements) s (found index s proof)
 
 pub unreachable-requires : goal.unreachable-requires
 unreachable-requires c =

@@ -1,14 +1,14 @@
 -- The code is sought behind the first `)`.
 use Rattle.std.proofs.Common.{◌+◌, arith}
 use Rattle.std.proofs.lemmas.List.{take_rest}
-use Rattle.mm_code.specs.Layout.{texts}
+use Rattle.mm_step.specs.Plain.{token_texts}
 use Rattle.mm_places.proofs.ProofPlaces.MovePlaces.{endless_place, none_found, some_found}
 use Rattle.mm_places.proofs.ProofPlaces.MovePlaces.{only_found, few_pieces}
 use Rattle.mm_places.proofs.places.compressed_place.Goals as goal
 
 pub returns-in_err-closing-clause-found : goal.returns-in_err-closing-clause-found
 returns-in_err-closing-clause-found c token byte at =
-    absurd (endless_place (texts c.args.rest.now) c.args.number token byte c.in_err-closing.ensures
+    absurd (endless_place (token_texts c.args.rest.now) c.args.number token byte c.in_err-closing.ensures
     at)
 
 pub returns-in_err-piece-clause-found : goal.returns-in_err-piece-clause-found

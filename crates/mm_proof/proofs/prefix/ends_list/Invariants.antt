@@ -1,5 +1,5 @@
 use Rattle.std.proofs.Common.{◌≡◌, take, false}
-use Rattle.mm_proof.specs.KnownPrefix.{ends_list}
+use Rattle.mm_proof.specs.CheckedPrefix.{ends_list}
 use Rattle.mm_step.specs.Plain.{token_texts}
 use Rattle.mm_proof.proofs.prefix.ends_list.Given as goal
 

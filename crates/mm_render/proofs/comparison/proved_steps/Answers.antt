@@ -1,7 +1,7 @@
 -- The steps are what the tokens say; a fault of theirs is one of the tokens.
 use Rattle.std.proofs.Common.{Ok, Err, inl, ap}
 use Rattle.std.proofs.lemmas.Bool.{both_ways}
-use Rattle.mm_code.specs.Layout.{texts}
+use Rattle.mm_step.specs.Plain.{token_texts}
 use Rattle.mm_rules.specs.Compared.{text_fault}
 use Rattle.mm_render.proofs.ToldProofs.ComparedTexts.{fails_as, unproved_of}
 use Rattle.mm_base.proofs.Lists.{error_keeps}
@@ -30,8 +30,8 @@ returns-in_err-judge_steps-in-Steps-clause-fault c =
     error_keeps c.from_residual-in_err-judge_steps-in-Steps.result
     c.in_err-judge_steps-in-Steps.field-0.0 _
     c.from_residual-in_err-judge_steps-in-Steps.ensures.1
-    (unproved_of c.args.profile c.args.book.now.statements c.args.id.0 (texts c.args.tokens.now)
-    c.in-Steps.steps c.in_err-judge_steps-in-Steps.field-0.0
+    (unproved_of c.args.profile c.args.book.now.statements c.args.id.0
+    (token_texts c.args.tokens.now) c.in-Steps.steps c.in_err-judge_steps-in-Steps.field-0.0
     (c.in_ok-steps.ensures.profile c.in-Steps.steps was)
     (c.in_ok-steps.ensures.steps c.in-Steps.steps was)
     (c.in_ok-steps.ensures.form c.in-Steps.steps was)

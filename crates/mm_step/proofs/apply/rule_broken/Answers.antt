@@ -14,7 +14,7 @@ are_equal-requires-clause-below g c =
 pub returns-then-not-are_equal-clause-judged : goal.returns-then-not-are_equal-clause-judged
 returns-then-not-are_equal-clause-judged g c limit id at hs called mandatory codes =
     let st = c.args.book.now.statements in
-    let xs = c.args.scheme.now.hypotheses.now in
+    let xs = c.args.signature.now.hypotheses.now in
     let stack = g.S.Store.stack c.args.store.now in
     let typed = typed_variables st xs hs c.requires.typed called.known in
     let paired : length (drop c.args.base stack) ≡ length hs =
@@ -24,23 +24,23 @@ returns-then-not-are_equal-clause-judged g c limit id at hs called mandatory cod
     (c.if-not-are_equal.ensures.equal (replaced_by hs (all_names_at st (drop c.args.base stack))) r
     hs called.known)
 
-pub returns-then-are_apart_pairs-clause-judged : goal.returns-then-are_apart_pairs-clause-judged
-returns-then-are_apart_pairs-clause-judged g c limit id at hs called mandatory codes = record {
+pub returns-then-are_disjoint_pairs-clause-judged : goal.returns-then-are_disjoint_pairs-clause-judged
+returns-then-are_disjoint_pairs-clause-judged g c limit id at hs called mandatory codes = record {
   codes = codes;
   equal = λ σ replaces. c.if-not-are_equal.ensures.equal σ replaces hs called.known;
-  apart = rw c.if-not-are_equal.ensures.stack at c.if-are_apart_pairs.ensures;
+  apart = rw c.if-not-are_equal.ensures.stack at c.if-are_disjoint_pairs.ensures;
 }
 
 pub returns-then-has_shared_pair-clause-judged : goal.returns-then-has_shared_pair-clause-judged
 returns-then-has_shared_pair-clause-judged g c limit id at hs called mandatory codes =
     let st = c.args.book.now.statements in
-    let xs = c.args.scheme.now.hypotheses.now in
+    let xs = c.args.signature.now.hypotheses.now in
     let stack = g.S.Store.stack c.args.store.now in
     let typed = typed_variables st xs hs c.requires.typed called.known in
     let paired : length (drop c.args.base stack) ≡ length hs =
     omega (arith, length-drop c.args.base stack, c.requires.entries, as_many st xs hs called.known) in
     let r = replaces_by c.one_number.ensures st (variables_of xs) hs (drop c.args.base stack) typed in
-    stops_P11 limit c.one_number.ensures st c.args.own.now.index id at _ hs stack c.args.base (variables_of xs) (pairs_in c.args.scheme.now.pairs.now) c.requires.sound.0 called paired typed mandatory
+    stops_P11 limit c.one_number.ensures st c.args.own.now.index id at _ hs stack c.args.base (variables_of xs) (pairs_in c.args.signature.now.pairs.now) c.requires.sound.0 called paired typed mandatory
     codes
     (c.if-not-are_equal.ensures.equal (replaced_by hs (all_names_at st (drop c.args.base stack))) r
     hs called.known)
@@ -49,15 +49,15 @@ returns-then-has_shared_pair-clause-judged g c limit id at hs called mandatory c
 pub returns-clause-judged : goal.returns-clause-judged
 returns-clause-judged g c limit id at hs called mandatory codes =
     let st = c.args.book.now.statements in
-    let xs = c.args.scheme.now.hypotheses.now in
+    let xs = c.args.signature.now.hypotheses.now in
     let stack = g.S.Store.stack c.args.store.now in
     let typed = typed_variables st xs hs c.requires.typed called.known in
     let paired : length (drop c.args.base stack) ≡ length hs =
     omega (arith, length-drop c.args.base stack, c.requires.entries, as_many st xs hs called.known) in
     let r = replaces_by c.one_number.ensures st (variables_of xs) hs (drop c.args.base stack) typed in
-    stops_P12 limit c.one_number.ensures st c.args.own.now.index id at _ hs stack c.args.base (variables_of xs) (pairs_in c.args.scheme.now.pairs.now) c.requires.sound.0 called paired typed mandatory
+    stops_P12 limit c.one_number.ensures st c.args.own.now.index id at _ hs stack c.args.base (variables_of xs) (pairs_in c.args.signature.now.pairs.now) c.requires.sound.0 called paired typed mandatory
     codes
     (c.if-not-are_equal.ensures.equal (replaced_by hs (all_names_at st (drop c.args.base stack))) r
     hs called.known)
     (rw c.if-not-are_equal.ensures.stack at c.if-has_shared_pair.ensures)
-    (rw c.if-not-are_equal.ensures.stack at c.if-are_apart_pairs.ensures)
+    (rw c.if-not-are_equal.ensures.stack at c.if-are_disjoint_pairs.ensures)

@@ -4,7 +4,7 @@ use Rattle.mm_frame.specs.Sentence.{IsHypothesis, IsAssertion}
 use Rattle.mm_frame.proofs.Names.LabelNumbers.{numbered_get}
 use Rattle.mm_step.proofs.ByNumbers.OneIndex.{one_index}
 use Rattle.mm_step.proofs.ByNumbers.StepByAssertion.{is_hypothesis_kind, is_assertion_kind}
-use Rattle.mm_step.proofs.ByNumbers.CalledAssertions.{scheme_of}
+use Rattle.mm_step.proofs.ByNumbers.CalledAssertions.{signature_of}
 use Rattle.mm_step.proofs.call.call_of.Goals as goal
 
 pub frame-requires : goal.frame-requires
@@ -28,6 +28,6 @@ returns-in_default c index label u =
     let p = c.frame.ensures.index in
     let at = c.frame.result.index in
     let same : u.at ≡ at = one_index st c.args.id.0 u.at at u.s p.0 u.numbered p.1 in
-    let its = c.scheme.ensures.conclusion in
-    scheme_of c.frame.result.statements st index c.args.id.0 at p.0 its.0 c.scheme.result c.frame.ensures.book p.1 p.2 (subst (λ (n : ℕ). n < index) same u.before)
-    c.scheme.ensures.ids c.scheme.ensures.typed c.scheme.ensures.pairs c.scheme.ensures.indices its.1 its.2 c.scheme.ensures.patterns
+    let its = c.signature.ensures.conclusion in
+    signature_of c.frame.result.statements st index c.args.id.0 at p.0 its.0 c.signature.result c.frame.ensures.book p.1 p.2 (subst (λ (n : ℕ). n < index) same u.before)
+    c.signature.ensures.ids c.signature.ensures.typed c.signature.ensures.pairs c.signature.ensures.indices its.1 its.2 c.signature.ensures.patterns

@@ -5,7 +5,7 @@ use Rattle.mm_step.specs.declared.fault.ProofRule.TheVariants.{L1}
 use Rattle.mm_step.specs.Stores.{numbers_in}
 use Rattle.mm_step.specs.Mirror.CodeRun.{CarriesOn, StopsAt}
 use Rattle.mm_step.specs.Mirror.CodeVerify.{AreStackEntries}
-use Rattle.mm_step.specs.Mirror.CodeApply.{IsCallOf, IsEarlierScheme}
+use Rattle.mm_step.specs.Mirror.CodeApply.{IsCallOf, IsEarlierSignature}
 use Rattle.mm_step.specs.Mirror.Sites.{ProofSite, IsSite}
 use Rattle.mm_step.proofs.ByNumbers.StepByAssertion.{stops_long, pushes, pushed_entries}
 use Rattle.mm_step.proofs.call.step_by.Goals as goal
@@ -50,13 +50,13 @@ returns-in_ok-push-in-Hypothesis-clause-entries g c =
     (numbers_in c.in-Hypothesis.expression.now)
     (subst IsSite c.site.view_is c.site.invariant.1).sound.0 u.1 u.2 u.3 c.requires.entries)
 
-pub apply-requires-clause-scheme : goal.apply-requires-clause-scheme
-apply-requires-clause-scheme g c =
+pub apply-requires-clause-signature : goal.apply-requires-clause-signature
+apply-requires-clause-signature g c =
     let id = c.requires.call.0 in
     let of = subst (IsCallOf c.args.site.now.statements c.args.site.now.index id) c.in-Assertion.is
     c.requires.call.1 in (
       id,
-      subst (λ (v : ProofSite). IsEarlierScheme v.statements v.index id c.in-Assertion.scheme)
+      subst (λ (v : ProofSite). IsEarlierSignature v.statements v.index id c.in-Assertion.signature)
           (sym c.site.view_is) of,
     )
 
@@ -68,7 +68,7 @@ apply-requires-clause-entries g c =
 pub returns-in-Assertion-clause-carried : goal.returns-in-Assertion-clause-carried
 returns-in-Assertion-clause-carried g c =
     let carried = subst (λ (v : ProofSite). OnOk c.apply.result ((id : ℕ)
-    → IsEarlierScheme v.statements v.index id c.in-Assertion.scheme
+    → IsEarlierSignature v.statements v.index id c.in-Assertion.signature
     → CarriesOn v.limit v.statements v.index id (g.S.Store.stack c.args.store.now)
     (g.S.Store.stack c.apply.new.store))) c.site.view_is c.apply.ensures.carried in
     on_ok_weaker c.apply.result (λ does. λ id of. does id (subst
@@ -84,8 +84,8 @@ returns-in-Assertion-clause-entries g c =
 pub returns-in-Assertion-clause-fault : goal.returns-in-Assertion-clause-fault
 returns-in-Assertion-clause-fault g c rule at is =
     let told = c.apply.ensures.fault rule at is in
-    let stops = subst (λ (v : ProofSite). (id : ℕ) → IsEarlierScheme v.statements v.index id
-    c.in-Assertion.scheme
+    let stops = subst (λ (v : ProofSite). (id : ℕ) → IsEarlierSignature v.statements v.index id
+    c.in-Assertion.signature
     → StopsAt v.limit v.statements v.index id (g.S.Store.stack c.args.store.now) rule)
     c.site.view_is told.1 in (
       told.0,

@@ -14,6 +14,6 @@ returns-in-Some g c =
     let st = c.args.book.now.statements in
     let index = c.args.own.now.index in
     some_told st index _ (share_of_variables st index)
-    (variables_of c.args.scheme.now.hypotheses.now)
-    (drop c.args.base (g.S.Store.stack c.args.store.now)) _ (pairs_in c.args.scheme.now.pairs.now)
+    (variables_of c.args.signature.now.hypotheses.now)
+    (drop c.args.base (g.S.Store.stack c.args.store.now)) _ (pairs_in c.args.signature.now.pairs.now)
     c.in-Some.ensures c.requires.symbols _ c.some_pair_shares.ensures

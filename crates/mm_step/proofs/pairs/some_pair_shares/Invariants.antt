@@ -6,6 +6,6 @@ use Rattle.mm_step.proofs.pairs.some_pair_shares.Given as goal
 
 abbrev pub invariant-loop-pair : goal.invariant-loop-pair
 invariant-loop-pair g l =
-    (k : ℕ) (p : ℕ × ℕ) → k < l.pair-index → slice_get (pairs_in l.scheme.pairs.now) k ≡ Some p
-    → EachValues (value_of (variables_of l.scheme.hypotheses.now) (drop l.base (g.S.Store.stack l.store))) p.0 p.1
+    (k : ℕ) (p : ℕ × ℕ) → k < l.pair-index → slice_get (pairs_in l.signature.pairs.now) k ≡ Some p
+    → EachValues (value_of (variables_of l.signature.hypotheses.now) (drop l.base (g.S.Store.stack l.store))) p.0 p.1
     (λ e f. ShareNoVariable (take l.fn.own.index l.fn.book.statements) (names_at l.fn.book.statements e) (names_at l.fn.book.statements f))

@@ -17,10 +17,10 @@ use Rattle.mm_step.proofs.step.are_equal.Goals.{Start}
 use Rattle.mm_step.proofs.step.are_equal.Goals as goal
 
 -- there are as many entries as variables
-paired : (g : Over) (c : Start g) → length (variables_of c.args.scheme.now.hypotheses.now)
+paired : (g : Over) (c : Start g) → length (variables_of c.args.signature.now.hypotheses.now)
     ≡ length (drop c.args.base (g.S.Store.stack c.args.store.now))
 paired g c =
-    let many = variables_counted c.args.scheme.now.hypotheses.now in
+    let many = variables_counted c.args.signature.now.hypotheses.now in
     omega (arith, length-drop c.args.base (g.S.Store.stack c.args.store.now), c.requires.entries)
 
 pub is_said_at-requires-clause-within : goal.is_said_at-requires-clause-within
@@ -32,14 +32,14 @@ is_said_at-requires-clause-within g c =
 pub returns-then-floating-clause-equal : goal.returns-then-floating-clause-equal
 returns-then-floating-clause-equal g c σ replaces hs are i h entry p q =
     let st = c.args.book.now.statements in
-    let xs = c.args.scheme.now.hypotheses.now in
+    let xs = c.args.signature.now.hypotheses.now in
     floating_equal st σ h entry _
     (c.requires.floating c.if-floating.true i (omega (arith, slice_get_within hs i h p, as_many st xs hs are, variables_counted xs)))
     (variable_typed st (variables_of xs) hs i h (typed_variables st xs hs c.requires.typed are) p)
 
 -- the entry at an index behind the base
 entry_there : (g : Over) (c : Start g) (index : ℕ)
-    → index < length c.args.scheme.now.hypotheses.now
+    → index < length c.args.signature.now.hypotheses.now
     → slice_get (g.S.Store.stack c.args.store.now) (c.args.base + index)
     ≡ Some (get_or (g.S.Store.stack c.args.store.now) (c.args.base + index) [])
 entry_there g c index less =
@@ -52,7 +52,7 @@ returns-then-not-is_said_at-clause-equal g c σ replaces hs are =
     let size = paired g start in
     let there = entry_there g start c.loop-index.index c.loop-index-test.true in
     let told = (rw c.loop-index.invariant.0 at c.is_said_at.ensures.said) _ there in
-    let xs = c.args.scheme.now.hypotheses.now in
+    let xs = c.args.signature.now.hypotheses.now in
     let stack = g.S.Store.stack c.args.store.now in
     let at = hypothesis_at _ xs hs _ no_hypothesis c.requires.typed are c.loop-index-test.true in
     let none = c.is_none.ensures ∙ ap not c.if-is_none.true in
@@ -73,7 +73,7 @@ pub loop-index-preserved : goal.loop-index-preserved
 loop-index-preserved g c =
     let start = (goal.at.loop-index-preserved g c).Start in
     let size = paired g start in
-    let xs = c.args.scheme.now.hypotheses.now in
+    let xs = c.args.signature.now.hypotheses.now in
     let stack = g.S.Store.stack c.args.store.now in
     let there = entry_there g start c.loop-index.index c.loop-index-test.true in
     elim c.else-is_none.branch [
@@ -107,4 +107,4 @@ loop-index-preserved g c =
     ]
 
 pub returns-clause-equal : goal.returns-clause-equal
-returns-clause-equal g c σ replaces hs are i h entry p q = c.loop-index.invariant.2 σ replaces hs are i h entry (omega (arith, slice_get_within hs i h p, as_many c.args.book.now.statements c.args.scheme.now.hypotheses.now hs are, c.loop-index-test.false)) p q
+returns-clause-equal g c σ replaces hs are i h entry p q = c.loop-index.invariant.2 σ replaces hs are i h entry (omega (arith, slice_get_within hs i h p, as_many c.args.book.now.statements c.args.signature.now.hypotheses.now hs are, c.loop-index-test.false)) p q

@@ -1,6 +1,6 @@
 //! Questions to a book, each with its answer.
 
-use crate::calls::frame::schemes::is_scheme;
+use crate::calls::frame::signatures::is_signature;
 use crate::calls::frame::taking::{book_of, id_of, name_of, variable_of};
 use mm_base::File;
 use mm_frame::{Book, Found, Hypothesis, LabelId, LabelKind};
@@ -21,7 +21,7 @@ pub(crate) enum Question {
     /// The labels of two `$f`, whose variables have one number, and the name of that.
     OneVariable(&'static [u8], &'static [u8], &'static [u8]),
     /// The label of an assertion, those of its mandatory hypotheses with spaces between them, and
-    /// how many distinct pairs there are. Its scheme is asked for too.
+    /// how many distinct pairs there are. Its signature is asked for too.
     Frame(&'static [u8], &'static str, usize),
     /// The label of an assertion, and those of the two `$f` of its distinct pair.
     Pair(&'static [u8], &'static [u8], &'static [u8]),
@@ -89,7 +89,7 @@ fn is_frame(book: &Book, assertion: &[u8], hypotheses: &str, pairs: usize) -> bo
             let frame = book.frame(id);
             are_labels(book, frame.hypotheses(), hypotheses)
                 && frame.pairs().len() == pairs
-                && is_scheme(book, &frame)
+                && is_signature(book, &frame)
         }
         _ => false,
     }

@@ -7,12 +7,12 @@ ghost use Rattle.mm_frame.specs.Sentence.{Sentence};
 ghost use Rattle.mm_forms.specs.OneTree.{MakeOneTree};
 ghost use Rattle.mm_step.specs.Steps.{AreSteps, IsProofNumber};
 ghost use Rattle.mm_proof.specs.Verified.{OfMoves};
-ghost use Rattle.mm_code.specs.Layout.{texts};
+ghost use Rattle.mm_step.specs.Plain.{token_texts};
 
 use crate::calls::proof::{JOINED, SHARED, Theorem, first_theorem, joined};
 use crate::databases::HEAD;
 use crate::doublings::TWENTY_FOUR;
-use mm_base::File;
+use mm_base::{File, Token};
 use mm_code::Code;
 use mm_forms::{Packed, compress, expand, same};
 use mm_frame::{Book, LabelId};
@@ -41,11 +41,11 @@ pub(crate) fn accepted_steps(
     alloc: Global,
     book: &Book,
     id: LabelId,
-    tokens: &[&[u8]],
+    tokens: &[Token],
 ) -> Result<Steps, Fail>
     requires proof { (index : ℕ) × (s : Sentence)
         × IsProofNumber book.now.statements id.0 index s }
-    requires room { sum_by length (texts tokens.now) ≤ most_bytes }
+    requires room { sum_by length (token_texts tokens.now) ≤ most_bytes }
     ensures steps { IfOk result (λ steps. AreSteps book.now.statements id.0 steps.moves) }
     ensures whole { IfOk result (λ steps. steps.prefix ≡ false) }
     ensures makes { IfOk result (λ steps. OfMoves book.now.statements id.0 steps.moves
@@ -68,7 +68,7 @@ fn expanded(
 ) -> Result<Result<Vec<LabelId>, ExpandFault>, Fail>
     requires proof { (index : ℕ) × (s : Sentence)
         × IsProofNumber theorem.now.book.statements theorem.now.id.0 index s }
-    requires room { sum_by length (texts theorem.now.tokens.items) ≤ most_bytes }
+    requires room { sum_by length (token_texts theorem.now.tokens.items) ≤ most_bytes }
 {
     let steps = accepted_steps(alloc, &theorem.book, theorem.id, &theorem.tokens)?;
     Ok(expand(alloc, &theorem.book, theorem.id, &steps, max))
@@ -93,7 +93,7 @@ fn has_spelling(
 ) -> Result<bool, Fail>
     requires proof { (index : ℕ) × (s : Sentence)
         × IsProofNumber theorem.now.book.statements theorem.now.id.0 index s }
-    requires room { sum_by length (texts theorem.now.tokens.items) ≤ most_bytes }
+    requires room { sum_by length (token_texts theorem.now.tokens.items) ≤ most_bytes }
 {
     match expanded(alloc, theorem, max)? {
         Ok(ids) => Ok(are_labels(&theorem.book, &ids, labels)),
@@ -138,11 +138,11 @@ fn spellings(rt: HostRuntime) -> Result<(), Fail> {
 }
 
 /// Whether the proof of the theorem and other tokens spell one tree.
-fn is_same(alloc: Global, theorem: &Theorem, tokens: &[&[u8]]) -> Result<bool, Fail>
+fn is_same(alloc: Global, theorem: &Theorem, tokens: &[Token]) -> Result<bool, Fail>
     requires proof { (index : ℕ) × (s : Sentence)
         × IsProofNumber theorem.now.book.statements theorem.now.id.0 index s }
-    requires room { sum_by length (texts theorem.now.tokens.items) ≤ most_bytes }
-    requires others_room { sum_by length (texts tokens.now) ≤ most_bytes }
+    requires room { sum_by length (token_texts theorem.now.tokens.items) ≤ most_bytes }
+    requires others_room { sum_by length (token_texts tokens.now) ≤ most_bytes }
 {
     let first = accepted_steps(alloc, &theorem.book, theorem.id, &theorem.tokens)?;
     let second = accepted_steps(alloc, &theorem.book, theorem.id, tokens)?;
@@ -214,7 +214,7 @@ fn sameness(rt: HostRuntime) -> Result<(), Fail> {
 fn packed_of(alloc: Global, theorem: &Theorem) -> Result<Packed, Fail>
     requires proof { (index : ℕ) × (s : Sentence)
         × IsProofNumber theorem.now.book.statements theorem.now.id.0 index s }
-    requires room { sum_by length (texts theorem.now.tokens.items) ≤ most_bytes }
+    requires room { sum_by length (token_texts theorem.now.tokens.items) ≤ most_bytes }
 {
     let steps = accepted_steps(alloc, &theorem.book, theorem.id, &theorem.tokens)?;
     Ok(compress(alloc, &theorem.book, theorem.id, &steps)?)

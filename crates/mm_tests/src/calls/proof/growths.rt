@@ -10,7 +10,7 @@ ghost use Rattle.mm_forms.specs.OneTree.{MakeOneTree};
 ghost use Rattle.mm_step.specs.Steps.{AreSteps, IsProofNumber};
 ghost use Rattle.mm_step.specs.Stores.{numbers_in};
 ghost use Rattle.mm_proof.specs.Verified.{OfMoves};
-ghost use Rattle.mm_code.specs.Layout.{texts};
+ghost use Rattle.mm_step.specs.Plain.{token_texts};
 
 use crate::calls::growths::once_more;
 use crate::calls::proof::forms::{LABELS, NUMBERS, accepted_steps, is_packed};
@@ -127,7 +127,7 @@ fn compress_on(alloc: Global, book: &Book, id: LabelId, steps: &Steps) -> Result
 fn packs_on(alloc: Global, theorem: &Theorem) -> Result<bool, Fail>
     requires proof { (index : ℕ) × (s : Sentence)
         × IsProofNumber theorem.now.book.statements theorem.now.id.0 index s }
-    requires room { sum_by length (texts theorem.now.tokens.items) ≤ most_bytes }
+    requires room { sum_by length (token_texts theorem.now.tokens.items) ≤ most_bytes }
 {
     let steps = accepted_steps(alloc, &theorem.book, theorem.id, &theorem.tokens)?;
     let packed = compress_on(alloc, &theorem.book, theorem.id, &steps)?;

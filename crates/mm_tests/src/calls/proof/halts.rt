@@ -5,10 +5,10 @@ ghost use Rattle.std.specs.List.{sum_by};
 ghost use Rattle.mm_base.specs.MostBytes.{most_bytes};
 ghost use Rattle.mm_frame.specs.Sentence.{Sentence};
 ghost use Rattle.mm_step.specs.Steps.{AreSteps, IsProofNumber};
-ghost use Rattle.mm_code.specs.Layout.{texts};
+ghost use Rattle.mm_step.specs.Plain.{token_texts};
 
 use crate::calls::proof::{Theorem, assertion, first_theorem, joined};
-use mm_base::File;
+use mm_base::{File, Token};
 use mm_frame::{Book, LabelId, Sym};
 use mm_listing::{Halt, HaltAt, Line, Name, halt_of};
 use mm_proof::{Parsed, Steps};
@@ -66,10 +66,10 @@ fn place_at(place: Place, cat: LabelId) -> HaltAt {
 }
 
 /// The steps of a proof, or of its known prefix.
-fn known_steps(alloc: Global, book: &Book, id: LabelId, tokens: &[&[u8]]) -> Result<Steps, Fail>
+fn known_steps(alloc: Global, book: &Book, id: LabelId, tokens: &[Token]) -> Result<Steps, Fail>
     requires proof { (index : ℕ) × (s : Sentence)
         × IsProofNumber book.now.statements id.0 index s }
-    requires room { sum_by length (texts tokens.now) ≤ most_bytes }
+    requires room { sum_by length (token_texts tokens.now) ≤ most_bytes }
     ensures { IfOk result (λ steps. AreSteps book.now.statements id.0 steps.moves) }
 {
     match Steps::parse(alloc, Profile::Lenient, book, id, tokens)? {
@@ -82,20 +82,20 @@ fn known_steps(alloc: Global, book: &Book, id: LabelId, tokens: &[&[u8]]) -> Res
 fn halt_in(alloc: Global, theorem: &Theorem) -> Result<Halt, Fail>
     requires proof { (index : ℕ) × (s : Sentence)
         × IsProofNumber theorem.now.book.statements theorem.now.id.0 index s }
-    requires room { sum_by length (texts theorem.now.tokens.items) ≤ most_bytes }
+    requires room { sum_by length (token_texts theorem.now.tokens.items) ≤ most_bytes }
 {
     let steps = known_steps(alloc, &theorem.book, theorem.id, &theorem.tokens)?;
     Ok(halt_of(alloc, &theorem.book, theorem.id, &steps)?)
 }
 
 /// Whether these steps made the entries that are left, each of them this expression.
-fn has_entries(halt: &Halt, makers: &[usize], expression: &[Sym]) -> bool {
-    for index in 0..halt.makers.len() {
+fn has_entries(halt: &Halt, origins: &[usize], expression: &[Sym]) -> bool {
+    for index in 0..halt.origins.len() {
         if halt.entry(index) != expression {
             return false;
         }
     }
-    halt.makers.as_slice() == makers
+    halt.origins.as_slice() == origins
 }
 
 /// Whether the moves of the theorem stop so.
@@ -105,11 +105,11 @@ fn stops(
     rule: Option<ProofRule>,
     place: Place,
     passed: usize,
-    makers: &[usize],
+    origins: &[usize],
 ) -> Result<bool, Fail>
     requires proof { (index : ℕ) × (s : Sentence)
         × IsProofNumber theorem.now.book.statements theorem.now.id.0 index s }
-    requires room { sum_by length (texts theorem.now.tokens.items) ≤ most_bytes }
+    requires room { sum_by length (token_texts theorem.now.tokens.items) ≤ most_bytes }
 {
     let nil = assertion(&theorem.book, b"nil")?;
     let cat = assertion(&theorem.book, b"cat")?;
@@ -117,7 +117,7 @@ fn stops(
     let answer = halt.rule == rule
         && halt.at == place_at(place, cat)
         && halt.passed == passed
-        && has_entries(&halt, makers, theorem.book.expression(nil));
+        && has_entries(&halt, origins, theorem.book.expression(nil));
     drop(halt);
     Ok(answer)
 }
@@ -129,14 +129,14 @@ fn first_stops(
     rule: Option<ProofRule>,
     place: Place,
     passed: usize,
-    makers: &[usize],
+    origins: &[usize],
 ) -> Result<bool, Fail> {
     let files = [File {
         name: b"a.mm",
         bytes,
     }];
     let theorem = first_theorem(alloc, &files)?;
-    let answer = stops(alloc, &theorem, rule, place, passed, makers);
+    let answer = stops(alloc, &theorem, rule, place, passed, origins);
     drop(theorem);
     answer
 }
@@ -144,9 +144,9 @@ fn first_stops(
 #[test]
 fn moves_stop(rt: HostRuntime) -> Result<(), Fail> {
     let alloc = rt.alloc();
-    for (letters, rule, place, passed, makers) in HALTS {
+    for (letters, rule, place, passed, origins) in HALTS {
         let bytes = joined(alloc, &[STRINGS, letters])?;
-        assert!(rt; first_stops(alloc, &bytes, rule, place, passed, makers)?);
+        assert!(rt; first_stops(alloc, &bytes, rule, place, passed, origins)?);
     }
     Ok(())
 }

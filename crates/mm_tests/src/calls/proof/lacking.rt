@@ -5,7 +5,7 @@ ghost use Rattle.std.specs.List.{sum_by};
 ghost use Rattle.mm_base.specs.MostBytes.{most_bytes};
 ghost use Rattle.mm_frame.specs.Sentence.{Sentence};
 ghost use Rattle.mm_step.specs.Steps.{IsProofNumber};
-ghost use Rattle.mm_code.specs.Layout.{texts};
+ghost use Rattle.mm_step.specs.Plain.{token_texts};
 
 use crate::calls::proof::asked::variable;
 use crate::calls::proof::{Theorem, first_theorem, joined};
@@ -45,7 +45,7 @@ $}
 fn pairs_of(alloc: Global, theorem: &Theorem) -> Result<Vec<(Sym, Sym)>, Fail>
     requires proof { (index : ℕ) × (s : Sentence)
         × IsProofNumber theorem.now.book.statements theorem.now.id.0 index s }
-    requires room { sum_by length (texts theorem.now.tokens.items) ≤ most_bytes }
+    requires room { sum_by length (token_texts theorem.now.tokens.items) ≤ most_bytes }
 {
     let profile = Profile::Lenient;
     let parsed = Steps::parse(alloc, profile, &theorem.book, theorem.id, &theorem.tokens)?;
@@ -57,7 +57,7 @@ fn pairs_of(alloc: Global, theorem: &Theorem) -> Result<Vec<(Sym, Sym)>, Fail>
 fn has_pairs(alloc: Global, theorem: &Theorem, pairs: &[(&[u8], &[u8])]) -> Result<bool, Fail>
     requires proof { (index : ℕ) × (s : Sentence)
         × IsProofNumber theorem.now.book.statements theorem.now.id.0 index s }
-    requires room { sum_by length (texts theorem.now.tokens.items) ≤ most_bytes }
+    requires room { sum_by length (token_texts theorem.now.tokens.items) ≤ most_bytes }
 {
     let book = &theorem.book;
     let lacking = pairs_of(alloc, theorem)?;

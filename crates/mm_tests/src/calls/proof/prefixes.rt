@@ -5,7 +5,7 @@ ghost use Rattle.std.specs.List.{sum_by};
 ghost use Rattle.mm_base.specs.MostBytes.{most_bytes};
 ghost use Rattle.mm_frame.specs.Sentence.{Sentence};
 ghost use Rattle.mm_step.specs.Steps.{IsProofNumber};
-ghost use Rattle.mm_code.specs.Layout.{texts};
+ghost use Rattle.mm_step.specs.Plain.{token_texts};
 
 use crate::calls::proof::{Theorem, first_theorem, joined};
 use crate::databases::HEAD;
@@ -65,7 +65,7 @@ fn is_told(verdict: Result<Used, ProofFault>, fault: Option<ProofFault>) -> bool
 fn has_prefix(alloc: Global, theorem: &Theorem, fault: Option<ProofFault>) -> Result<bool, Fail>
     requires proof { (index : ℕ) × (s : Sentence)
         × IsProofNumber theorem.now.book.statements theorem.now.id.0 index s }
-    requires room { sum_by length (texts theorem.now.tokens.items) ≤ most_bytes }
+    requires room { sum_by length (token_texts theorem.now.tokens.items) ≤ most_bytes }
 {
     let profile = Profile::Lenient;
     match Steps::parse(alloc, profile, &theorem.book, theorem.id, &theorem.tokens)? {
@@ -82,7 +82,7 @@ fn has_prefix(alloc: Global, theorem: &Theorem, fault: Option<ProofFault>) -> Re
 fn is_whole(alloc: Global, theorem: &Theorem) -> Result<bool, Fail>
     requires proof { (index : ℕ) × (s : Sentence)
         × IsProofNumber theorem.now.book.statements theorem.now.id.0 index s }
-    requires room { sum_by length (texts theorem.now.tokens.items) ≤ most_bytes }
+    requires room { sum_by length (token_texts theorem.now.tokens.items) ≤ most_bytes }
 {
     let profile = Profile::Lenient;
     match Steps::parse(alloc, profile, &theorem.book, theorem.id, &theorem.tokens)? {
@@ -95,7 +95,7 @@ fn is_whole(alloc: Global, theorem: &Theorem) -> Result<bool, Fail>
 fn fault_of(alloc: Global, theorem: &Theorem, profile: Profile) -> Option<ProofFault>
     requires proof { (index : ℕ) × (s : Sentence)
         × IsProofNumber theorem.now.book.statements theorem.now.id.0 index s }
-    requires room { sum_by length (texts theorem.now.tokens.items) ≤ most_bytes }
+    requires room { sum_by length (token_texts theorem.now.tokens.items) ≤ most_bytes }
 {
     Steps::parse(alloc, profile, &theorem.book, theorem.id, &theorem.tokens).err()
 }

@@ -5,7 +5,7 @@ ghost use Rattle.std.specs.List.{sum_by};
 ghost use Rattle.mm_base.specs.MostBytes.{most_bytes};
 ghost use Rattle.mm_frame.specs.Sentence.{Sentence};
 ghost use Rattle.mm_step.specs.Steps.{IsProofNumber};
-ghost use Rattle.mm_code.specs.Layout.{texts};
+ghost use Rattle.mm_step.specs.Plain.{token_texts};
 
 use crate::calls::growths::once_more;
 use crate::calls::proof::{Theorem, first_theorem, uses_in};
@@ -166,7 +166,7 @@ fn is_shortened(
 fn are_shortened(alloc: Global, theorem: &Theorem) -> Result<bool, Fail>
     requires proof { (index : ℕ) × (s : Sentence)
         × IsProofNumber theorem.now.book.statements theorem.now.id.0 index s }
-    requires room { sum_by length (texts theorem.now.tokens.items) ≤ most_bytes }
+    requires room { sum_by length (token_texts theorem.now.tokens.items) ≤ most_bytes }
 {
     let used = uses_in(alloc, theorem)?;
     let book = &theorem.book;
@@ -268,7 +268,7 @@ fn is_chosen_with(
 fn takes_parts(alloc: Global, theorem: &Theorem) -> Result<bool, Fail>
     requires proof { (index : ℕ) × (s : Sentence)
         × IsProofNumber theorem.now.book.statements theorem.now.id.0 index s }
-    requires room { sum_by length (texts theorem.now.tokens.items) ≤ most_bytes }
+    requires room { sum_by length (token_texts theorem.now.tokens.items) ≤ most_bytes }
 {
     let used = uses_in(alloc, theorem)?;
     let mut library = Library::new(alloc, Seed::known());
@@ -410,7 +410,7 @@ fn shortens_on(
 fn goes_on(alloc: Global, theorem: &Theorem) -> Result<bool, Fail>
     requires proof { (index : ℕ) × (s : Sentence)
         × IsProofNumber theorem.now.book.statements theorem.now.id.0 index s }
-    requires room { sum_by length (texts theorem.now.tokens.items) ≤ most_bytes }
+    requires room { sum_by length (token_texts theorem.now.tokens.items) ≤ most_bytes }
 {
     let used = uses_in(alloc, theorem)?;
     let mut library = Library::new(alloc, Seed::known());

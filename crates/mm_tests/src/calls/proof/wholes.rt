@@ -5,10 +5,10 @@ ghost use Rattle.std.specs.List.{sum_by};
 ghost use Rattle.mm_base.specs.MostBytes.{most_bytes};
 ghost use Rattle.mm_frame.specs.Sentence.{Sentence};
 ghost use Rattle.mm_step.specs.Steps.{IsProofNumber};
-ghost use Rattle.mm_code.specs.Layout.{texts};
+ghost use Rattle.mm_step.specs.Plain.{token_texts};
 
 use crate::calls::proof::{Theorem, first_theorem, joined};
-use mm_base::File;
+use mm_base::{File, Token};
 use mm_places::whole_place;
 use mm_proof::Steps;
 use mm_step::{Profile, ProofFault, ProofRule};
@@ -86,11 +86,11 @@ fn place_of(
 ) -> Result<Option<(ProofRule, usize, usize)>, AllocError>
     requires proof { (index : ℕ) × (s : Sentence)
         × IsProofNumber theorem.now.book.statements theorem.now.id.0 index s }
-    requires room { sum_by length (texts theorem.now.tokens.items) ≤ most_bytes }
+    requires room { sum_by length (token_texts theorem.now.tokens.items) ≤ most_bytes }
 {
     let book = &theorem.book;
     let id = theorem.id;
-    let tokens: &[&[u8]] = &theorem.tokens;
+    let tokens: &[Token] = &theorem.tokens;
     match Steps::parse(alloc, Profile::Strict, book, id, tokens) {
         Ok(_) => Ok(None),
         Err(ProofFault::Memory) => Err(AllocError),

@@ -1,5 +1,6 @@
 -- The words are answered by the request that they make.
 use Rattle.std.proofs.Common.{Some, inl, inr, refl, ap}
+use Rattle.std.proofs.lemmas.Result.{IfErr-weaker, IfOk-weaker}
 use Rattle.mm_tool.specs.Answer.{quiet}
 use Rattle.mm_tool.proofs.AnsweredWords.{answers_text, asks_explained, asks_run, explained}
 use Rattle.mm_tool.proofs.AnsweredWords.{helped, stops_answer, stops_command, stops_help}
@@ -111,6 +112,26 @@ returns-in-Run-clause-stops g c =
     (asks_run (texts_in c.args.words.now) _ _ c.in-Run.names c.deref-in-Run.result.now
     c.in_ok-topic.ensures.request c.in-Run.is c.deref-in-Run.ensures.value)
     c.asked_label.ensures c.labelled.ensures c.in-Err.ensures.stops
+
+pub find_over-requires-clause-asked : goal.find_over-requires-clause-asked
+find_over-requires-clause-asked g c =
+    (texts_in c.args.words.now, rw c.in-Find.is at c.in_ok-topic.ensures.request)
+
+pub returns-in-Find-clause-answers : goal.returns-in-Find-clause-answers
+returns-in-Find-clause-answers g c =
+    let asked = rw c.in-Find.is at c.in_ok-topic.ensures.request in
+    IfOk-weaker c.find_over.result _ _
+    (λ answer told.
+    let (text, command, asks, reply, taken) = told (texts_in c.args.words.now) asked in
+    (text, inr (inr (inr (inl (command, _, asks, reply)))), taken))
+    c.find_over.ensures.replies
+
+pub returns-in-Find-clause-stops : goal.returns-in-Find-clause-stops
+returns-in-Find-clause-stops g c =
+    let asked = rw c.in-Find.is at c.in_ok-topic.ensures.request in
+    IfErr-weaker c.find_over.result _ _
+    (λ stop told. told c.args.texts.now (texts_in c.args.words.now) asked)
+    c.find_over.ensures.stops
 
 pub returns-in-Ok-text_over-clause-answers : goal.returns-in-Ok-text_over-clause-answers
 returns-in-Ok-text_over-clause-answers g c =

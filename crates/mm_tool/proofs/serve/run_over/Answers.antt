@@ -7,7 +7,7 @@ use Rattle.mm_tool.specs.Folder.{IsFileFault, plain_read}
 use Rattle.mm_tool.specs.declared.files.FileFault.{FileFault}
 use Rattle.mm_check.specs.Reply.{IsReplyTo}
 use Rattle.mm_rules.specs.Status.{number_of}
-use Rattle.mm_tool.proofs.FilesRead.{notes_over, reply_over}
+use Rattle.mm_tool.proofs.FilesRead.{all_notes_over, reply_over}
 use Rattle.mm_tool.proofs.AnsweredWords.{as_many, asks_handed, replies_written}
 use Rattle.mm_tool.proofs.AnsweredWords.{stops_too_long, stops_written}
 use Rattle.mm_tool.proofs.serve.run_over.Goals as goal
@@ -48,7 +48,7 @@ returns-clause-replies g c =
     let read = c.in_ok-files.ensures ∙ ap (map plain_read) c.deref.ensures.value in
     let given = ap (map plain_file) c.deref-2.ensures.value ∙ read in
     let noted = ap (map plain_file) c.deref-3.ensures.value ∙ read in
-    let text : List ℕ = c.in_ok-reply.reply.text.items in
+    let text : List ℕ = c.in_ok-watched.watched.reply.text.items in
     let notes : List ℕ = c.in_ok-notes.notes.items in
     replies_written g.O.Write.contents (g.F.Folder.holds c.args.folder.now)
     (g.F.Folder.may_fail c.args.folder.now) c.args.command.now _ c.args.max c.noted_reply.result
@@ -59,11 +59,11 @@ returns-clause-replies g c =
       within,
       reply_over c.alike_files_have_one_reply.ensures c.comments_for.result c.args.command.now
           c.args.max c.comments_for.ensures.0 wholes _ reads within text _
-          (subst (λ l. IsReplyTo l c.args.command.now text (number_of c.in_ok-reply.reply.status))
-          given c.in_ok-reply.ensures.reply),
-      notes_over c.alike_files_leave_out_the_same.ensures c.comments_for.result
+          (subst (λ l. IsReplyTo l c.args.command.now text (number_of c.in_ok-watched.watched.reply.status))
+          given c.in_ok-watched.ensures.reply),
+      all_notes_over c.alike_files_leave_out_the_same.ensures c.comments_for.result
           c.args.command.now c.args.max c.comments_for.ensures.0 wholes _ reads within text notes
-          (rw (noted, c.deref-4.ensures.value) at c.in_ok-notes.ensures),
+          (rw noted at c.in_ok-notes.ensures),
     ))
 
 pub returns-clause-stops : goal.returns-clause-stops
@@ -72,7 +72,7 @@ returns-clause-stops g c =
     let read = c.in_ok-files.ensures ∙ ap (map plain_read) c.deref.ensures.value in
     let given = ap (map plain_file) c.deref-2.ensures.value ∙ read in
     let noted = ap (map plain_file) c.deref-3.ensures.value ∙ read in
-    let text : List ℕ = c.in_ok-reply.reply.text.items in
+    let text : List ℕ = c.in_ok-watched.watched.reply.text.items in
     let notes : List ℕ = c.in_ok-notes.notes.items in
     stops_written g.O.Write.contents (g.F.Folder.holds c.args.folder.now)
     (g.F.Folder.may_fail c.args.folder.now) c.args.command.now _ c.args.max c.noted_reply.result
@@ -83,9 +83,9 @@ returns-clause-stops g c =
       within,
       reply_over c.alike_files_have_one_reply.ensures c.comments_for.result c.args.command.now
           c.args.max c.comments_for.ensures.0 wholes _ reads within text _
-          (subst (λ l. IsReplyTo l c.args.command.now text (number_of c.in_ok-reply.reply.status))
-          given c.in_ok-reply.ensures.reply),
-      notes_over c.alike_files_leave_out_the_same.ensures c.comments_for.result
+          (subst (λ l. IsReplyTo l c.args.command.now text (number_of c.in_ok-watched.watched.reply.status))
+          given c.in_ok-watched.ensures.reply),
+      all_notes_over c.alike_files_leave_out_the_same.ensures c.comments_for.result
           c.args.command.now c.args.max c.comments_for.ensures.0 wholes _ reads within text notes
-          (rw (noted, c.deref-4.ensures.value) at c.in_ok-notes.ensures),
+          (rw noted at c.in_ok-notes.ensures),
     ))

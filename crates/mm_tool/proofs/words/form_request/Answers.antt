@@ -47,6 +47,13 @@ returns-in_err-minimize_request-clause-fault c =
     (c.in-Some-subcommand_matches-3.ensures.found.0 refl)
     c.in-Some-subcommand_matches-3.ensures.rows))
 
+pub returns-in-Some-subcommand_matches-4-clause-request :
+    goal.returns-in-Some-subcommand_matches-4-clause-request
+returns-in-Some-subcommand_matches-4-clause-request c = λ words met.
+    c.in_ok-asked_text.ensures words (commands_met words c.args.matches.now _ _ met
+    (c.in-Some-subcommand_matches-4.ensures.found.0 refl)
+    c.in-Some-subcommand_matches-4.ensures.rows)
+
 pub returns-in-Some-subcommand_matches-5-clause-request :
     goal.returns-in-Some-subcommand_matches-5-clause-request
 returns-in-Some-subcommand_matches-5-clause-request c = λ words met.

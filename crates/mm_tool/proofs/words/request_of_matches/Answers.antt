@@ -57,31 +57,62 @@ returns-in-Some-subcommand_matches-4-clause-request c = λ words met.
 
 pub returns-in-Some-subcommand_matches-5-clause-request :
     goal.returns-in-Some-subcommand_matches-5-clause-request
-returns-in-Some-subcommand_matches-5-clause-request c = λ words met.
-    c.in_ok-label_request.ensures words _
+returns-in-Some-subcommand_matches-5-clause-request c =
+    IfOk-weaker c.statement_request.result _ _
+    (λ request asks words met. asks words
     (commands_met words c.args.matches.now _ _ met
     (c.in-Some-subcommand_matches-5.ensures.found.0 refl)
-    c.in-Some-subcommand_matches-5.ensures.rows)
-    (λ label names asks. asks)
+    c.in-Some-subcommand_matches-5.ensures.rows))
+    c.statement_request.ensures.request
+
+pub returns-in-Some-subcommand_matches-5-clause-fault :
+    goal.returns-in-Some-subcommand_matches-5-clause-fault
+returns-in-Some-subcommand_matches-5-clause-fault c =
+    IfErr-weaker c.statement_request.result _ _
+    (λ stop refused words met. refused words
+    (commands_met words c.args.matches.now _ _ met
+    (c.in-Some-subcommand_matches-5.ensures.found.0 refl)
+    c.in-Some-subcommand_matches-5.ensures.rows))
+    c.statement_request.ensures.fault
 
 pub returns-in-Some-subcommand_matches-6-clause-request :
     goal.returns-in-Some-subcommand_matches-6-clause-request
 returns-in-Some-subcommand_matches-6-clause-request c =
-    IfOk-weaker c.show_request.result _ _
+    IfOk-weaker c.find_request.result _ _
     (λ request asks words met. asks words
     (commands_met words c.args.matches.now _ _ met
     (c.in-Some-subcommand_matches-6.ensures.found.0 refl)
     c.in-Some-subcommand_matches-6.ensures.rows))
-    c.show_request.ensures.request
+    c.find_request.ensures.request
 
 pub returns-in-Some-subcommand_matches-6-clause-fault :
     goal.returns-in-Some-subcommand_matches-6-clause-fault
 returns-in-Some-subcommand_matches-6-clause-fault c =
-    IfErr-weaker c.show_request.result _ _
+    IfErr-weaker c.find_request.result _ _
     (λ stop refused words met. refused words
     (commands_met words c.args.matches.now _ _ met
     (c.in-Some-subcommand_matches-6.ensures.found.0 refl)
     c.in-Some-subcommand_matches-6.ensures.rows))
+    c.find_request.ensures.fault
+
+pub returns-in-Some-subcommand_matches-7-clause-request :
+    goal.returns-in-Some-subcommand_matches-7-clause-request
+returns-in-Some-subcommand_matches-7-clause-request c =
+    IfOk-weaker c.show_request.result _ _
+    (λ request asks words met. asks words
+    (commands_met words c.args.matches.now _ _ met
+    (c.in-Some-subcommand_matches-7.ensures.found.0 refl)
+    c.in-Some-subcommand_matches-7.ensures.rows))
+    c.show_request.ensures.request
+
+pub returns-in-Some-subcommand_matches-7-clause-fault :
+    goal.returns-in-Some-subcommand_matches-7-clause-fault
+returns-in-Some-subcommand_matches-7-clause-fault c =
+    IfErr-weaker c.show_request.result _ _
+    (λ stop refused words met. refused words
+    (commands_met words c.args.matches.now _ _ met
+    (c.in-Some-subcommand_matches-7.ensures.found.0 refl)
+    c.in-Some-subcommand_matches-7.ensures.rows))
     c.show_request.ensures.fault
 
 pub returns-clause-fault : goal.returns-clause-fault
@@ -106,5 +137,7 @@ returns-clause-fault c = λ words met.
             c.in_default-subcommand_matches-5.is (c.subcommand_matches-6.ensures.found.1 named)),
         other _ rows met (λ named. none_there c.subcommand_matches-7.result
             c.in_default-subcommand_matches-6.is (c.subcommand_matches-7.ensures.found.1 named)),
+        other _ rows met (λ named. none_there c.subcommand_matches-8.result
+            c.in_default-subcommand_matches-7.is (c.subcommand_matches-8.ensures.found.1 named)),
       ),
     ))

@@ -1,7 +1,11 @@
 -- White space is passed over, and a word is taken.
-use Rattle.std.proofs.Common.{List, map, sym, ap, subst, ◌∙◌, refl}
+use Rattle.std.proofs.Common.{List, map, length, sym, ap, subst, ◌∙◌, refl, arith}
+use Rattle.std.specs.List.{sum_by}
 use Rattle.std.proofs.lemmas.List.{map-append}
 use Rattle.mm_base.specs.Token.{PlainToken, plain_token}
+use Rattle.mm_code.specs.Words.{texts_of}
+use Rattle.mm_code.proofs.ReadBack.{texts_in}
+use Rattle.mm_rules.proofs.Judgements.JudgedProofs.{texts_of as same_texts}
 use Rattle.mm_verdict.specs.Mirror.Comparisons.{ArePrefixTokens}
 use Rattle.mm_verdict.proofs.Questions.TextTokens.{prefix_none, prefix_passed, prefix_taken}
 use Rattle.mm_verdict.proofs.Questions.TextTokens.{prefix_all}
@@ -29,7 +33,22 @@ loop-first-preserved c =
     c.word_len.ensures.word c.word_len.ensures.stop c.split_at.ensures.front c.split_at.ensures.back
     refl)
 
-pub returns-clause-tokens : goal.returns-clause-tokens
-returns-clause-tokens c =
+pub returns-clause-places : goal.returns-clause-places
+returns-clause-places c =
     prefix_all c.args.text.now (map plain_token c.loop-first.tokens.items) c.loop-first.rest.now
     c.loop-first.invariant c.in_default.ensures.cases
+
+pub returns-clause-tokens : goal.returns-clause-tokens
+returns-clause-tokens c =
+    same_texts c.loop-first.tokens.items
+    ∙ ap texts_of (prefix_all c.args.text.now (map plain_token c.loop-first.tokens.items)
+    c.loop-first.rest.now c.loop-first.invariant c.in_default.ensures.cases)
+    ∙ texts_in 0 0 c.args.text.now
+
+pub returns-clause-room : goal.returns-clause-room
+returns-clause-room c =
+    omega (
+      arith,
+      c.loop-first.invariant.room,
+      ap (sum_by length) (same_texts c.loop-first.tokens.items),
+    )

@@ -8,6 +8,7 @@ pub enum ErrorKind {
     UnknownArgument,
     InvalidSubcommand,
     TooManyValues,
+    InvalidValue,
     ArgumentConflict,
     MissingRequiredArgument,
     DisplayHelp,

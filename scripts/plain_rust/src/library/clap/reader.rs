@@ -74,11 +74,25 @@ impl<'c, 'a> Reader<'c, 'a> {
             self.settle_anyway()?;
             return Err(refusals::unknown_long(self.command, name, rest)?);
         };
+        if flag.is_option() {
+            return self.take_option(flag, value);
+        }
         if let Some(value) = value {
             self.settle_anyway()?;
             return Err(refusals::too_many(self.command, flag, value)?);
         }
         self.take_flag(flag)
+    }
+
+    /// Takes an option, whose word is this, or else the next one.
+    fn take_option(&mut self, option: &'c Arg<'a>, value: Option<&'a str>) -> Result<(), Error> {
+        self.settle()?;
+        let mut values = Vec::new(self.command.alloc);
+        if let Some(value) = value {
+            values.push(value)?;
+        }
+        self.waiting = Some((option, values));
+        Ok(())
     }
 
     fn take_shorts(&mut self, shorts: &str) -> Result<(), Error> {
@@ -113,6 +127,12 @@ impl<'c, 'a> Reader<'c, 'a> {
     }
 
     fn take_value(&mut self, word: &'a str) -> Result<(), Error> {
+        if let Some((option, values)) = &mut self.waiting {
+            if option.is_option() && values.is_empty() && !self.is_trailing {
+                values.push(word)?;
+                return Ok(());
+            }
+        }
         let Some(arg) = self.command.at_place(self.place) else {
             self.settle_anyway()?;
             return Err(refusals::unknown_word(self.command, word, self.is_trailing)?);
@@ -143,8 +163,14 @@ impl<'c, 'a> Reader<'c, 'a> {
             let last = values.last().copied().unwrap_or("");
             return Err(refusals::too_many(self.command, arg, last)?);
         }
+        if values.is_empty() {
+            return Err(refusals::no_value(self.command, arg)?);
+        }
         let known = self.found.iter().position(|known| known.name == arg.name);
         match known {
+            Some(_) if arg.is_option() && arg.action == ArgAction::Set => {
+                return Err(refusals::repeated(self.command, arg)?);
+            }
             Some(number) => self.found[number].values.extend_from_slice(&values)?,
             None => self.found.push(Found {
                 name: arg.name,

@@ -160,7 +160,19 @@ pub(super) fn too_many(
     told(command, ErrorKind::TooManyValues, &text, meant)
 }
 
-/// A flag that is given twice.
+/// An option with no word behind it.
+pub(super) fn no_value(command: &Command, arg: &Arg) -> Result<Error, AllocError> {
+    let shown = arg.shown(command.alloc)?;
+    let text = format_in!(command.alloc;
+        "error: a value is required for '{}' but none was supplied\n\n\
+        For more information, try '--help'.\n", shown.as_str())?;
+    Ok(Error {
+        kind: ErrorKind::InvalidValue,
+        text: Some(text),
+    })
+}
+
+/// A flag or an option that is given twice.
 pub(super) fn repeated(command: &Command, arg: &Arg) -> Result<Error, AllocError> {
     let shown = arg.shown(command.alloc)?;
     let text = format_in!(command.alloc;

@@ -2,7 +2,7 @@
 use Rattle.std.proofs.Common.{[], ◌∙◌, ap, sym}
 use Rattle.std.proofs.lemmas.Result.{on_ok_weaker}
 use Rattle.mm_base.specs.Statement.{PlainStatement, plain_statement}
-use Rattle.mm_explain.specs.Mirror.Breaches.{positions_after}
+use Rattle.mm_explain.specs.Mirror.SemanticErrors.{positions_after}
 use Rattle.mm_explain.proofs.InnermostBlocks.{positions_more}
 use Rattle.mm_explain.proofs.conflict.OpenBlocksPassing.pass.Goals as goal
 

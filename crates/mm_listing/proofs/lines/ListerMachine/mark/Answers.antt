@@ -8,4 +8,4 @@ returns-clause-ran g c first prefix allowed was =
     let long : vec_len lines ≡ length lines.items = search rules in
     lists_mark g.S.Store.stack g.S.Store.kept first c.args.self.now _ prefix c.len-number.result was
     (c.in_ok-mark.ensures.ran first.judge prefix allowed.0 was.judged) refl refl
-    c.in_ok-push.ensures.items (c.len-number.ensures ∙ long)
+    c.in_ok-push.ensures.items (c.len-number.ensures ∙ long) refl

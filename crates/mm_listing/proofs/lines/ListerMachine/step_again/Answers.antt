@@ -37,6 +37,8 @@ returns-clause-ran g c first prefix allowed was =
     c.index-after.ensures in
     lists_step g.S.Store.stack g.S.Store.kept first c.args.self.now _ prefix (again tag) _ was
     (c.in_ok-step_again.ensures.ran first.judge prefix allowed.0 was.judged) refl refl
-    c.in_ok-push.ensures.items refl line.expression
+    c.in_ok-push.ensures.items refl refl
+    (left g (goal.at.returns-clause-ran g c).In_ok-step_again).1
+    (rw c.expresses_next-expressed.ensures at line.expression)
     (λ moves move numbered n. let stands = was.stand moves numbered tag _ there in
     (by_step c.index-after.result.now, rw line.name refl, rw n (_, stands, refl)))

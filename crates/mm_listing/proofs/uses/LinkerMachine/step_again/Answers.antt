@@ -14,7 +14,7 @@ use Rattle.mm_listing.proofs.uses.LinkerMachine.step_again.Goals as goal
 -- the step leaves something
 left : (g : Over) (c : In_ok-step_again g)
     → let entries = g.S.Store.stack c.step_again.new.self.judge.store.now in
-    (0 < length entries) × (length entries - 1 ≤ length c.args.self.now.makers.now.items)
+    (0 < length entries) × (length entries - 1 ≤ length c.args.self.now.origins.now.items)
 left g c =
     let next = c.requires in
     linker_left g.S.Store.stack g.S.Store.kept next.first c.args.self.now next.prefix
@@ -52,13 +52,13 @@ index-source-requires g c =
     let known = after g (goal.at.index-source-requires g c).After-step_before-after in
     omega (arith, known.0, known.1, long)
 
-pub put_maker-requires-clause-made : goal.put_maker-requires-clause-made
-put_maker-requires-clause-made g c =
-    (left g (goal.at.put_maker-requires-clause-made g c).In_ok-step_again).0
+pub put_origin-requires-clause-made : goal.put_origin-requires-clause-made
+put_origin-requires-clause-made g c =
+    (left g (goal.at.put_origin-requires-clause-made g c).In_ok-step_again).0
 
-pub put_maker-requires-clause-within : goal.put_maker-requires-clause-within
-put_maker-requires-clause-within g c =
-    (left g (goal.at.put_maker-requires-clause-within g c).In_ok-step_again).1
+pub put_origin-requires-clause-within : goal.put_origin-requires-clause-within
+put_origin-requires-clause-within g c =
+    (left g (goal.at.put_origin-requires-clause-within g c).In_ok-step_again).1
 
 pub returns-clause-ran : goal.returns-clause-ran
 returns-clause-ran g c first prefix allowed was =
@@ -70,7 +70,7 @@ returns-clause-ran g c first prefix allowed was =
     links_again g.S.Store.stack g.S.Store.kept first old prefix was _ c.args.tag
     c.step_before-after.result c.index-source.result.now allowed
     (c.in_ok-step_again.ensures.ran first.lister prefix allowed.0 was.listed)
-    refl refl refl refl c.in_ok-put_maker.ensures c.in_ok-push-2.ensures.items
+    refl refl refl refl c.in_ok-put_origin.ensures c.in_ok-push-2.ensures.items
     (rows_pushed _ _ c.new.result c.in_ok-push.ensures.items
     ∙ ap (λ (l : List ℕ). rows_of old.uses.now.items ++ l ∷ []) c.new.ensures.items)
     c.step_before-after.ensures read

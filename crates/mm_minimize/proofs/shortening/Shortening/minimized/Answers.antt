@@ -9,13 +9,13 @@ pub own_proof-requires-clause-proved : goal.own_proof-requires-clause-proved
 own_proof-requires-clause-proved g c =
     rw (ap (λ (v : Conclusion). v.sentences) c.checked.view_is) c.requires.proved
 
-pub returns : goal.returns
-returns g c = λ label statements reads r.
+pub returns-clause-text : goal.returns-clause-text
+returns-clause-text g c = λ label statements reads r.
     let now : Conclusion = c.args.self.now.checked.now in
     let well : KeptWell now = subst KeptWell c.checked.view_is c.checked.invariant in
     let told : c.checked.inside.book.statements ≡ now.sentences = ap (λ (v : Conclusion). v.sentences) c.checked.view_is in
     let of : AreOf now statements = read_statements now statements well.origin reads in
     let small = small_of statements now.sentences label c.args.theorem.now c.in_ok-own.own of.kept.sentences r c.requires.proved (rw told at c.in_ok-own.ensures) in
     minimized_found now.profile now.files statements label c.args.theorem.now c.in_ok-own.own
-    c.in_ok-found.found c.shortest.result.items reads r small c.in_ok-found.ensures.found
-    c.shortest.ensures
+    c.in_ok-found.found c.shortest.result.text.items reads r small c.in_ok-found.ensures.found
+    c.shortest.ensures.text

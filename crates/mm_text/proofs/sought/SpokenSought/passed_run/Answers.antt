@@ -1,7 +1,7 @@
 use Rattle.std.proofs.Common.{ℕ, leb, cond, refl, arith}
 use Rattle.std.proofs.lemmas.Simd.{zip2_splat, length-chunk, splat_is_map}
 use lib.Lanes.{chunk}
-use Rattle.mm_text.specs.Mirror.Hollow.{is_spoken}
+use Rattle.mm_text.specs.Mirror.Stripped.{is_spoken}
 use Rattle.mm_text.proofs.Tokens.ManyBytes.{joined, run_in}
 use Rattle.mm_text.proofs.sought.SpokenSought.passed_run.Goals as goal
 

@@ -1,4 +1,0 @@
-use Rattle.mm_frame.proofs.book.Book.scheme.Goals as goal
-
-pub returns : goal.returns
-returns c = rw (← c.self.view_is) c.label_scheme.ensures

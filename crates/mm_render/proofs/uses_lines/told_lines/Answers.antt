@@ -1,0 +1,12 @@
+-- The moves prove the statement, so they are listed.
+use Rattle.std.proofs.Common.{Err, ap, ◌∙◌}
+use Rattle.mm_render.proofs.ToldProofs.ShownSteps.{no_rule_fault}
+use Rattle.mm_render.proofs.uses_lines.told_lines.Goals as goal
+
+pub unreachable-requires : goal.unreachable-requires
+unreachable-requires c =
+    let a = c.requires.steps in
+    no_rule_fault c.partial_listing.result c.in-Err-Rule.field-0-0 c.in-Err-Rule.field-0-1
+    (c.in-Err-Rule.is ∙ ap Err c.in-Err-Rule.field-0-is)
+    (c.partial_listing.ensures.accepts a.index a.s a.moves a.proof a.numbered
+    (c.requires.proved a.index a.s a.moves a.proof a.numbered))
