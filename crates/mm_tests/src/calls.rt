@@ -4,6 +4,7 @@
 mod check;
 mod code;
 mod devices;
+mod diff;
 mod failing;
 mod find;
 mod frame;

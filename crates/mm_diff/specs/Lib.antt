@@ -1,0 +1,4 @@
+pub mod Diff
+pub mod Reply
+pub mod Laws
+pub mod Mirror

@@ -1,0 +1,67 @@
+//! The lines that tell what changed.
+
+ghost use Rattle.std.specs.Prelude.{◌≡◌, ◌<◌, ◌++◌, ◌∷◌, [], map, length, OnOk};
+ghost use Rattle.std.specs.List.{AllByRecursion};
+ghost use Rattle.mm_rules.specs.Answer.{labels_at};
+ghost use Rattle.mm_diff.specs.Diff.{letter_lines, sums_line};
+
+use mm_frame::LabelId;
+use mm_rules::{push_number, push_word};
+use mm_verdict::Checked;
+use std::alloc::AllocError;
+
+/// A line for the label with this number, a letter before it.
+fn push_lettered(
+    out: &mut Vec<u8>,
+    checked: &Checked,
+    letter: &[u8],
+    number: LabelId,
+) -> Result<(), AllocError>
+    requires { number.0 < length checked.now.labels }
+    ensures { OnOk result (out.new.items ≡ out.old.items
+        ++ letter_lines letter.now (labels_at checked.now.labels (number.0 ∷ []))) }
+{
+    out.extend_from_slice(letter)?;
+    push_word(out, checked.name(number))?;
+    out.push(b'\n')?;
+    Ok(())
+}
+
+/// A line for the label of each of these numbers, a letter before it.
+#[tactic(auto, using(crate::proofs::DiffLines::one_more_line))]
+pub(crate) fn push_letter_lines(
+    out: &mut Vec<u8>,
+    checked: &Checked,
+    letter: &[u8],
+    numbers: &[LabelId],
+) -> Result<(), AllocError>
+    requires { AllByRecursion (λ n. n < length checked.now.labels) (map (λ id. id.0) numbers.now) }
+    ensures { OnOk result (out.new.items ≡ out.old.items
+        ++ letter_lines letter.now
+        (labels_at checked.now.labels (map (λ id. id.0) numbers.now))) }
+{
+    for number in numbers {
+        push_lettered(out, checked, letter, *number)?;
+    }
+    Ok(())
+}
+
+/// The line with the sums.
+pub(crate) fn push_sums(
+    out: &mut Vec<u8>,
+    gone: usize,
+    added: usize,
+    changed: usize,
+) -> Result<(), AllocError>
+    ensures { OnOk result (out.new.items ≡ out.old.items ++ sums_line gone added changed) }
+{
+    out.extend_from_slice(b"differ")?;
+    push_number(out, gone)?;
+    push_word(out, b"gone")?;
+    push_number(out, added)?;
+    push_word(out, b"added")?;
+    push_number(out, changed)?;
+    push_word(out, b"changed")?;
+    out.push(b'\n')?;
+    Ok(())
+}

@@ -1,0 +1,115 @@
+//! What changed between two versions of a database. What is told of each was worked out by hand.
+
+use mm_base::{File, Seed};
+use mm_diff::{diff_reply, no_change};
+use mm_rules::Status;
+use mm_step::Profile;
+use std::alloc::Global;
+use std::test::Fail;
+
+/// The old version.
+const OLD: &[u8] = b"$c -> wff |- $. $v p q $. wp $f wff p $. wq $f wff q $.
+wi $a wff p -> q $.
+${ min $e |- p $. maj $e |- p -> q $. mp $a |- q $. $}
+${ $d p q $. ax1 $a |- p -> q $. $}
+ax2 $a |- p -> p $.
+th1 $p |- p -> p $= wp ax2 $.
+";
+
+/// The reply to a database with the unknown label in its first proof, under the name old.mm.
+const OLD_FAULT: &[u8] = b"no old.mm 1 p P2 0\n";
+
+/// A new version of it, what is told of that, and the status.
+#[derive(Clone, Copy)]
+struct Version {
+    new: &'static [u8],
+    text: &'static [u8],
+    status: Status,
+}
+
+/// Whether the version is told so.
+fn is_told(alloc: Global, version: &Version) -> Result<bool, Fail> {
+    let old = [File {
+        name: b"old.mm",
+        bytes: OLD,
+    }];
+    let new = [File {
+        name: b"new.mm",
+        bytes: version.new,
+    }];
+    let reply = diff_reply(alloc, Seed::known(), Profile::Lenient, &old, &new)?;
+    Ok(reply.text.as_slice() == version.text && reply.status == version.status)
+}
+
+#[test]
+fn tells_versions(rt: HostRuntime) -> Result<(), Fail> {
+    for version in [
+        Version {
+            new: OLD,
+            text: b"differ 0 gone 0 added 0 changed\n",
+            status: Status::Done,
+        },
+        // Neither a new label of a hypothesis nor the order of a pair counts, nor a new proof.
+        Version {
+            new: b"$c |- wff -> $. $v q p $. wp $f wff p $. vq $f wff q $.
+${ mi $e |- p $. ma $e |- p -> q $. mp $a |- q $. $}
+wi $a wff p -> q $.
+${ $d q p $. ax1 $a |- p -> q $. $}
+ax2 $a |- p -> p $.
+th1 $p |- p -> p $= ? $.
+",
+            text: b"differ 0 gone 0 added 0 changed\n",
+            status: Status::Done,
+        },
+        // The order of `$f` is that of what a step asks for: so wi is another, and so are all.
+        Version {
+            new: b"$c -> wff |- $. $v p q $. wq $f wff q $. wp $f wff p $.
+wi $a wff p -> q $.
+${ min $e |- p $. maj $e |- p -> q $. mp $a |- q $. $}
+${ $d p q $. ax1 $a |- p -> q $. $}
+ax2 $a |- p -> p $.
+th1 $p |- p -> p $= wp ax2 $.
+",
+            text: b"C wi\nC mp\nC ax1\ndiffer 0 gone 0 added 3 changed\n",
+            status: Status::Refused,
+        },
+        // One is gone, two are added, and each of the others is changed in another way.
+        Version {
+            new: b"$c -> wff |- $. $v p q $. wp $f wff p $. wq $f wff q $.
+wj $a wff p -> q $.
+${ min $e |- q $. maj $e |- p -> q $. mp $a |- q $. $}
+ax1 $a |- p -> q $.
+ax2 $a |- q -> q $.
+th1 $a |- p -> p $.
+th2 $p |- q -> q $= wq ax2 $.
+",
+            text: b"G wi\nA wj\nA th2\nC mp\nC ax1\nC ax2\nC th1\ndiffer 1 gone 2 added 4 changed\n",
+            status: Status::Refused,
+        },
+        Version {
+            new: b"$c a $. th1 $p a $= no $.\n",
+            text: b"no new.mm 1 th1 P2 0\n",
+            status: Status::Refused,
+        },
+    ] {
+        assert!(rt; is_told(rt.alloc(), &version)?);
+    }
+    no_change();
+    Ok(())
+}
+
+#[test]
+fn tells_the_old_fault_first(rt: HostRuntime) -> Result<(), Fail> {
+    let old = [File {
+        name: b"old.mm",
+        bytes: b"$c a $. p $p a $= no $.",
+    }];
+    let new = [File {
+        name: b"new.mm",
+        bytes: b"$c a b $. $c",
+    }];
+    let reply = diff_reply(rt.alloc(), Seed::known(), Profile::Lenient, &old, &new)?;
+    assert!(rt; reply.text.as_slice() == OLD_FAULT);
+    assert!(rt; reply.status == Status::Refused);
+    Ok(())
+}
