@@ -1,0 +1,179 @@
+-- A file into which lemmas are put, beside the file as it was: what may change, and what is kept.
+-- Statements, blocks and proofs are those of the Metamath book, sections 4.2 to 4.4; which lemmas
+-- may be put in, and what proofs may do with them, is this project's own.
+use Rattle.std.specs.Prelude.{◌≡◌, ◌⊎◌, ℕ, ◌<◌, ◌≤◌, List, [], ◌∷◌, ◌++◌, map, length, All}
+use Rattle.std.specs.Prelude.{Contains, Some, None, slice_get, filter, true}
+use Rattle.std.specs.List.{flat_map}
+use Rattle.mm_base.specs.declared.statement.Kind.TheVariants.{Distinct, Essential}
+use Rattle.mm_base.specs.declared.statement.Kind.TheVariants.{Opening, Closing}
+use Rattle.mm_base.specs.Statement.{PlainStatement}
+use Rattle.mm_text.specs.Files.{PlainFile}
+use Rattle.mm_text.specs.Reading.{Reads}
+use Rattle.mm_text.specs.Replaced.{with_bytes}
+use Rattle.mm_frame.specs.Active.{open_marks, close_marks}
+use Rattle.mm_frame.specs.Sentence.{Sentence, sentence_of}
+use Rattle.mm_step.specs.declared.profile.Profile.{Profile}
+use Rattle.mm_proof.specs.Strict.{IsStrict}
+use Rattle.mm_rules.specs.Rests.{IsNamed, RestsOn, Uses}
+use Rattle.mm_rules.specs.Verdict.{AreAccepted, is_proof, labels_of, proof_of, sentences}
+use Rattle.mm_render.specs.Shorter.{IsMarkedWith, IsUnfounded, MayUse, proof_mark}
+use Rattle.mm_save.specs.AllSaved.{Replacement, theorems_of, with_replaced}
+
+-- ---- what is read
+
+-- the parts of the new reading, in order: a statement that was there, as it was and as it is read
+-- now, or the statements of a lemma
+pub data Part : Type 0 where
+  Kept : (old new : PlainStatement) → Part
+  Put : (lemma : List PlainStatement) → Part
+
+-- what is read of a part in the file as it was
+abbrev pub old_of : Part → List PlainStatement
+old_of (Kept old new) = old ∷ []
+old_of (Put lemma) = []
+
+-- what is read of it now
+abbrev pub new_of : Part → List PlainStatement
+new_of (Kept old new) = new ∷ []
+new_of (Put lemma) = lemma
+
+-- what is read of it that wasn't there
+abbrev pub put_of : Part → List PlainStatement
+put_of (Kept old new) = []
+put_of (Put lemma) = lemma
+
+-- the labels of the lemmas, without those of their hypotheses
+abbrev pub lemma_labels : List Part → List (List ℕ)
+lemma_labels parts = labels_of (filter is_proof (flat_map put_of parts))
+
+-- what a statement says, with its proof, wherever it stands
+abbrev pub said : PlainStatement → Sentence × List (List ℕ)
+said s = (sentence_of s, proof_of s)
+
+-- a theorem has another proof, after these statements: its own is complete and isn't marked to stay
+-- as it is, and the new one is complete and strict
+pub record IsProvedAnew (files : List PlainFile) (before : List PlainStatement)
+    (old new : PlainStatement) : Type 0 where
+  pub proved : is_proof old ≡ true
+  pub unmarked : ¬ (IsMarkedWith proof_mark files old)
+  pub complete : is_proof new ≡ true
+  pub strict : IsStrict (sentences before) (sentence_of new) (proof_of new)
+
+-- a statement for hypotheses of a lemma: a `$d` or a `$e`
+abbrev pub IsCondition : PlainStatement → Type 0
+IsCondition s = (s.kind ≡ Distinct) ⊎ (s.kind ≡ Essential)
+
+-- the theorem stands in a block with such statements before it, and nothing behind it
+pub record IsBlockOf (theorem : PlainStatement) (block : List PlainStatement) : Type 0 where
+  pub opening : PlainStatement
+  pub conditions : List PlainStatement
+  pub closing : PlainStatement
+  pub whole : block ≡ opening ∷ conditions ++ theorem ∷ closing ∷ []
+  pub opens : opening.kind ≡ Opening
+  pub each : All IsCondition conditions
+  pub closes : closing.kind ≡ Closing
+
+-- a lemma, after these statements: a theorem with a complete proof, alone or in a block of its own,
+-- outside of all other blocks
+pub record IsLemma (before lemma : List PlainStatement) : Type 0 where
+  pub outside : open_marks (sentences before) ≡ close_marks (sentences before)
+  pub theorem : PlainStatement
+  pub complete : is_proof theorem ≡ true
+  pub alone : (lemma ≡ theorem ∷ []) ⊎ IsBlockOf theorem lemma
+
+-- what a part may be, after these statements: what was there reads as it did, but perhaps for its
+-- proof, and what wasn't is a lemma
+abbrev pub MayStand : List PlainFile → (before : List PlainStatement) → Part → Type 0
+MayStand files before (Kept old new) =
+    (sentence_of old ≡ sentence_of new) × (old.first.file ≡ new.first.file)
+    × ((proof_of new ≡ proof_of old) ⊎ IsProvedAnew files before old new)
+MayStand files before (Put lemma) = IsLemma before lemma
+
+-- ---- what proofs use
+
+-- the proof of the theorem with the label uses the assertion with the other label
+abbrev pub UsesNamed : List PlainStatement → (label used : List ℕ) → Type 0
+UsesNamed statements label used =
+    (id : ℕ) × (n : ℕ) × IsNamed statements label (λ s. Unit {0}) id
+    × IsNamed statements used (λ a. Unit {0}) n × Uses statements id n
+
+-- the theorem with the label rests on the axiom, or the unproved theorem, with the other label
+abbrev pub RestsOnNamed : List PlainStatement → (label basis : List ℕ) → Type 0
+RestsOnNamed statements label basis =
+    (id : ℕ) × (n : ℕ) × IsNamed statements label (λ s. Unit {0}) id
+    × IsNamed statements basis (λ a. Unit {0}) n × IsUnfounded statements n
+    × RestsOn (Uses statements) id n
+
+-- the theorem with the label may newly use the assertion with the other one, by marks and mathboxes
+abbrev pub MayUseNamed : List PlainFile → List PlainStatement → (label used : List ℕ) → Type 0
+MayUseNamed files statements label used =
+    (id : ℕ) (n : ℕ) (s a : PlainStatement) → IsNamed statements label (λ t. t ≡ s) id
+    → IsNamed statements used (λ t. t ≡ a) n → MayUse files s a
+
+-- ---- what is written
+
+-- what is written at a place of the file, and the statements that are read of it, where those are
+-- lemmas
+pub record Edit : Type 0 where
+  pub place : Replacement
+  pub lemmas : List PlainStatement
+
+-- a file of these bytes alone
+abbrev pub alone : List ℕ → List PlainFile
+alone bytes = record { name = []; bytes = bytes } ∷ []
+
+-- a proof is replaced, of a theorem of the file with the number that isn't marked
+abbrev pub IsProofEdit : List PlainFile → List PlainStatement → (number : ℕ) → Edit → Type 0
+IsProofEdit files statements number edit =
+    (s : PlainStatement) × Contains (theorems_of number statements) s
+    × ¬ (IsMarkedWith proof_mark files s) × (edit.place.span ≡ s.span) × (edit.lemmas ≡ [])
+
+-- lemmas are put in between two bytes: the text is read by itself, with its comments, as they are
+abbrev pub IsLemmaEdit : Edit → Type 0
+IsLemmaEdit edit =
+    (edit.place.span.0 ≡ edit.place.span.1) × Reads (alone edit.place.text) edit.lemmas None
+
+-- each place stands behind those before it, and all in so many bytes
+pub record AreApart (count : ℕ) (places : List Replacement) : Type 0 where
+  pub behind : (i j : ℕ) (a b : Replacement) → i < j → slice_get places i ≡ Some a
+      → slice_get places j ≡ Some b → a.span.1 ≤ b.span.0
+  pub within : All (λ a. (a.span.0 ≤ a.span.1) × (a.span.1 ≤ count)) places
+
+-- The bytes are those of the file with these edits, which put in these statements, in their order,
+-- and each byte outside of them is kept.
+pub record AreEdited (files : List PlainFile) (statements : List PlainStatement) (number : ℕ)
+    (old bytes : List ℕ) (put : List PlainStatement) : Type 0 where
+  pub edits : List Edit
+  pub each : All (λ edit. IsProofEdit files statements number edit ⊎ IsLemmaEdit edit) edits
+  pub apart : AreApart (length old) (map (λ edit. edit.place) edits)
+  pub lemmas : map said (flat_map (λ edit. edit.lemmas) edits) ≡ map said put
+  pub whole : bytes ≡ with_replaced old (map (λ edit. edit.place) edits)
+
+-- ---- the whole
+
+-- The statements are those of the files, and these are bytes of the file with the number into which
+-- lemmas are put. With them the files are accepted. All statements are there, in their order, and
+-- others are lemmas alone. A theorem that was there newly uses lemmas alone, and whatever a theorem
+-- or a lemma newly uses it may use. No theorem that was there rests on an axiom, or on an unproved
+-- theorem, on which it didn't rest. The file isn't longer.
+pub record IsWithLemmas (profile : Profile) (files : List PlainFile)
+    (statements : List PlainStatement) (number : ℕ) (bytes : List ℕ) : Type 0 where
+  pub file : PlainFile
+  pub handed : slice_get files number ≡ Some file
+  pub others : List PlainStatement
+  pub accepted : AreAccepted profile (with_bytes files number bytes) others
+  pub parts : List Part
+  pub old : statements ≡ flat_map old_of parts
+  pub new : others ≡ flat_map new_of parts
+  pub each : (before after : List Part) (part : Part) → parts ≡ before ++ part ∷ after
+      → MayStand files (flat_map new_of before) part
+  pub by_lemmas : (label used : List ℕ) → Contains (labels_of statements) label
+      → UsesNamed others label used
+      → UsesNamed statements label used ⊎ Contains (lemma_labels parts) used
+  pub allowed : (label used : List ℕ) → UsesNamed others label used
+      → UsesNamed statements label used
+      ⊎ MayUseNamed (with_bytes files number bytes) others label used
+  pub founded : (label basis : List ℕ) → Contains (labels_of statements) label
+      → RestsOnNamed others label basis → RestsOnNamed statements label basis
+  pub edited : AreEdited files statements number file.bytes bytes (flat_map put_of parts)
+  pub no_longer : length bytes ≤ length file.bytes

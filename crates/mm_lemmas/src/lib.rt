@@ -1,0 +1,34 @@
+//! Lemmas that a library lacks: theorems, each of two steps, that would make its proofs smaller.
+//! None of it is trusted: lemmas are told for a checker to judge. It is proved that each call ends,
+//! that it puts nothing back into a budget, and that indices, arithmetic and memory are safe. Begin
+//! with `search`, then `trial` and `pattern`; what a file with lemmas may be stands in
+//! `specs/WithLemmas.antt`.
+#![tactic(auto)]
+
+mod assertions;
+mod budget;
+mod decode;
+mod digrams;
+mod grammar;
+mod joint;
+mod known;
+mod leaves;
+mod lemma;
+mod listed;
+mod parse;
+mod pattern;
+mod proof;
+mod replacing;
+mod rewriting;
+mod rows;
+mod search;
+mod size;
+mod terms;
+mod trial;
+mod unify;
+mod wording;
+
+pub use assertions::{Library, Standing};
+pub use budget::Budget;
+pub use lemma::{Lemma, Part, Wanted};
+pub use search::{LEMMA_STEPS, Proved, Search};
