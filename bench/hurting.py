@@ -370,8 +370,6 @@ REASONS = {
     ("distinct", "show"): "as `check`",
     ("distinct", "statement"): "as `check`; and the reply has a line for each pair",
     ("distinct", "axioms"): "as `check`",
-    ("growing_values", "show"): "keeps the expressions of all steps; those of the steps that are "
-                                "shown would do",
 }
 
 CASES = [

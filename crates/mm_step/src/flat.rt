@@ -14,7 +14,7 @@ use mm_frame::{Piece, ShortPiece, Sym};
 use std::alloc::{AllocError, Global};
 
 // The buffer is so long, at least, when its end is cut off for the first time.
-const FIRST_CUT: usize = 1 << 22;
+const FIRST_CUT: usize = 1 << 18;
 
 /// A store that has one buffer for the symbols of all its expressions.
 ///
