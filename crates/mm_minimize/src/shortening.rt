@@ -1,7 +1,7 @@
 //! Shorter proofs of the theorems of a database, as they are judged.
 
 ghost use Rattle.std.specs.Prelude.{◌≡◌, ◌↔◌, ◌<◌, ◌≤◌, List, ℕ, map, length, Contains, slice_get, true};
-ghost use Rattle.std.specs.Prelude.{false, IsTrue, IfOk, IfErr, IfSome, Some, None, take};
+ghost use Rattle.std.specs.Prelude.{IsTrue, IfOk, IfErr, IfSome, Some, None, take};
 ghost use Rattle.std.specs.Prelude.{MatchOption, OnOk};
 ghost use Rattle.std.specs.List.{AllByRecursion};
 ghost use Rattle.std.specs.Option.{option_to_list};
@@ -9,7 +9,7 @@ ghost use Rattle.mm_base.specs.Statement.{PlainStatement};
 ghost use Rattle.mm_text.specs.Reading.{Reads};
 ghost use Rattle.mm_frame.specs.Numbers.{labelled_sentences, AreNumbers};
 ghost use Rattle.mm_frame.specs.Sentence.{Sentence};
-ghost use Rattle.mm_step.specs.Steps.{AreSteps, IsProofNumber};
+ghost use Rattle.mm_step.specs.Steps.{IsProofNumber};
 ghost use Rattle.mm_rules.specs.declared.ask.AskFault.TheVariants.{Memory};
 ghost use Rattle.mm_rules.specs.Rests.{AreRising, IsAt};
 ghost use Rattle.mm_render.specs.Shorter.{IsMinimized, IsMarkedWith, proof_mark};
@@ -19,7 +19,7 @@ ghost use Rattle.mm_minimize.specs.Mirror.Shortening.{IsRemarkOf, IsSearchedFor}
 ghost use Rattle.mm_minimize.specs.Mirror.Shortening.{IsAllowedProof, IsUnmarkedIn};
 ghost use Rattle.mm_render.specs.Mirror.Shortening.{IsOwnProof};
 ghost use Rattle.mm_minimize.specs.Mirror.Shortening.{IsProvedAnew, IsFound, HaveOneCode, IsJustOne};
-ghost use Rattle.mm_verdict.specs.Mirror.Theorems.{AreProvedSteps, AreStepsOf};
+ghost use Rattle.mm_verdict.specs.Mirror.Theorems.{AreStepsOf, IsWholeProof};
 
 use crate::library_search::LibrarySearch;
 use crate::remarks::{Remark, may_use, remarks_of};
@@ -294,11 +294,8 @@ impl<'c, 'a> Shortening<'c, 'a> {
         text: &[u8],
     ) -> Result<Option<Shorter>, AllocError>
         requires known { KnowsDatabase self.now }
-        requires steps { AreSteps self.now.checked.now.sentences theorem.now.id.0
-            theorem.now.steps.moves }
-        requires proved { AreProvedSteps self.now.checked.now.sentences theorem.now.id.0
+        requires theorem { IsWholeProof self.now.checked.now.sentences theorem.now.id.0
             theorem.now.steps }
-        requires whole { theorem.now.steps.prefix ≡ false }
         requires own { IsOwnProof self.now.checked.now.sentences theorem.now.id.0
             theorem.now.steps.moves own.now }
         requires unmarked { IsUnmarkedIn self.now.checked.now.files theorem.now.id.0 }
@@ -344,11 +341,8 @@ impl<'c, 'a> Shortening<'c, 'a> {
         search: &mut S,
     ) -> Result<Option<Shorter>, AllocError>
         requires known { KnowsDatabase self.now }
-        requires steps { AreSteps self.now.checked.now.sentences theorem.now.id.0
-            theorem.now.steps.moves }
-        requires proved { AreProvedSteps self.now.checked.now.sentences theorem.now.id.0
+        requires theorem { IsWholeProof self.now.checked.now.sentences theorem.now.id.0
             theorem.now.steps }
-        requires whole { theorem.now.steps.prefix ≡ false }
         requires own { IsOwnProof self.now.checked.now.sentences theorem.now.id.0
             theorem.now.steps.moves own.now }
         ensures anew { IfOk result (λ found. IfSome found (IsProvedAnew
@@ -384,11 +378,8 @@ impl<'c, 'a> Shortening<'c, 'a> {
         search: &mut S,
     ) -> Result<Minimized, AllocError>
         requires known { KnowsDatabase self.now }
-        requires steps { AreSteps self.now.checked.now.sentences theorem.now.id.0
-            theorem.now.steps.moves }
-        requires proved { AreProvedSteps self.now.checked.now.sentences theorem.now.id.0
+        requires theorem { IsWholeProof self.now.checked.now.sentences theorem.now.id.0
             theorem.now.steps }
-        requires whole { theorem.now.steps.prefix ≡ false }
         ensures text { IfOk result (λ found. (label : List ℕ) → (statements : List PlainStatement)
             → Reads self.now.checked.now.files statements None
             → AreStepsOf statements label theorem.now.id.0 theorem.now.steps.moves

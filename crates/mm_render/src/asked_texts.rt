@@ -5,7 +5,7 @@ ghost use Rattle.mm_rules.specs.Compared.{IsSameFault};
 ghost use Rattle.mm_render.specs.Forms.{IsNormalOf, IsNormalFault, IsPackedOf, IsSmallOf};
 ghost use Rattle.mm_render.specs.Mirror.Rewriting.{IsSpanTextOf};
 ghost use Rattle.mm_render.specs.Mirror.Shortening.{IsOwnProof};
-ghost use Rattle.mm_verdict.specs.Mirror.Theorems.{AreProvedSteps};
+ghost use Rattle.mm_verdict.specs.Mirror.Theorems.{IsWholeProof};
 ghost use Rattle.mm_rules.specs.Rests.{IsAskFault};
 ghost use Rattle.mm_render.specs.Saved.{IsSaved, FitsSaved, IsSaveFault};
 ghost use Rattle.mm_render.specs.Shown.{ShowsProof};
@@ -13,10 +13,9 @@ ghost use Rattle.mm_render.specs.ShownUses.{ShowsUses};
 ghost use Rattle.mm_verdict.specs.Stated.{IsStatementFault, TellsStatement};
 ghost use Rattle.mm_rules.specs.declared.ask.AskFault.TheVariants.{Memory};
 ghost use Rattle.mm_verdict.specs.declared.form.Form.TheVariants.{Small};
-ghost use Rattle.mm_step.specs.Steps.{AreSteps};
 ghost use Rattle.mm_text.specs.Reading.{Reads};
 ghost use Rattle.mm_base.specs.Statement.{PlainStatement};
-ghost use Rattle.std.specs.Prelude.{false, None, IfOk, IfErr};
+ghost use Rattle.std.specs.Prelude.{None, IfOk, IfErr};
 ghost use Rattle.std.specs.Prelude.{◌≡◌, ◌<◌, List};
 
 use crate::comparison::is_same;
@@ -213,9 +212,7 @@ pub fn own_small_proof(
     checked: &Checked,
     theorem: &Theorem,
 ) -> Result<OwnProof, AllocError>
-    requires steps { AreSteps checked.now.sentences theorem.now.id.0 theorem.now.steps.moves }
-    requires proved { AreProvedSteps checked.now.sentences theorem.now.id.0 theorem.now.steps }
-    requires whole { theorem.now.steps.prefix ≡ false }
+    requires { IsWholeProof checked.now.sentences theorem.now.id.0 theorem.now.steps }
     ensures { IfOk result (IsOwnProof checked.now.sentences theorem.now.id.0
         theorem.now.steps.moves) }
 {
@@ -229,9 +226,7 @@ pub fn small_span_text(
     theorem: &Theorem,
     old: &[u8],
 ) -> Result<Vec<u8>, AskFault>
-    requires steps { AreSteps checked.now.sentences theorem.now.id.0 theorem.now.steps.moves }
-    requires proved { AreProvedSteps checked.now.sentences theorem.now.id.0 theorem.now.steps }
-    requires whole { theorem.now.steps.prefix ≡ false }
+    requires { IsWholeProof checked.now.sentences theorem.now.id.0 theorem.now.steps }
     ensures put { IfOk result (λ put. IsSpanTextOf Small checked.now.sentences theorem.now.id.0
         theorem.now.steps.moves old.now put.items) }
     ensures memory { IfErr result (λ fault. fault ≡ Memory) }

@@ -12,7 +12,7 @@ ghost use Rattle.mm_proof.specs.Strict.{HasFormOf};
 ghost use Rattle.mm_proof.specs.Tokens.{is_incomplete};
 ghost use Rattle.mm_rules.specs.Compared.{IsProofText};
 ghost use Rattle.mm_render.specs.Mirror.Theorems.{SayWholeSteps};
-ghost use Rattle.mm_verdict.specs.Mirror.Theorems.{AreProvedSteps};
+ghost use Rattle.mm_verdict.specs.Mirror.Theorems.{AreProvedSteps, IsWholeProof};
 ghost use Rattle.mm_render.specs.Mirror.Comparisons.{FailsAs, IsUnproved, IsTextRefused};
 ghost use Rattle.mm_render.specs.Mirror.Comparisons.{IsComparedWith};
 
@@ -103,9 +103,7 @@ pub(crate) fn is_same(
     theorem: &Theorem,
     text: &[u8],
 ) -> Result<bool, AskFault>
-    requires steps { AreSteps book.now.statements theorem.now.id.0 theorem.now.steps.moves }
-    requires proved { AreProvedSteps book.now.statements theorem.now.id.0 theorem.now.steps }
-    requires whole { theorem.now.steps.prefix ≡ false }
+    requires { IsWholeProof book.now.statements theorem.now.id.0 theorem.now.steps }
     ensures compared { IfOk result (IsComparedWith profile book.now.statements theorem.now.id.0
         theorem.now.steps.moves text.now) }
     ensures fault { IfErr result (IsTextRefused profile book.now.statements theorem.now.id.0

@@ -1,6 +1,6 @@
 //! The normal, the packed and the small proof of a theorem, as texts.
 
-ghost use Rattle.std.specs.Prelude.{◌≡◌, ◌⊎◌, ◌<◌, ◌≤◌, List, ℕ, length, take, false, IfOk, IfErr};
+ghost use Rattle.std.specs.Prelude.{◌≡◌, ◌⊎◌, ◌<◌, ◌≤◌, List, ℕ, length, take, IfOk, IfErr};
 ghost use Rattle.std.specs.Prelude.{◌∷◌};
 ghost use Rattle.std.specs.List.{flat_map};
 ghost use Rattle.mm_code.specs.Layout.{texts};
@@ -9,7 +9,6 @@ ghost use Rattle.mm_step.specs.Tree.{spelling};
 ghost use Rattle.mm_forms.specs.Spelled.{AreLabelsOf, OfSpelling};
 ghost use Rattle.mm_forms.specs.Packing.{OfTree};
 ghost use Rattle.mm_forms.specs.Sharing.{HasSteps};
-ghost use Rattle.mm_step.specs.Steps.{AreSteps};
 ghost use Rattle.mm_proof.specs.Verified.{OfMoves};
 ghost use Rattle.mm_rules.specs.declared.ask.AskFault.TheVariants.{Rule, Memory};
 ghost use Rattle.mm_rules.specs.declared.rule.AskRule.TheVariants.{L2};
@@ -17,7 +16,7 @@ ghost use Rattle.mm_render.specs.Forms.{most_labels, IsNormalText, IsPackedText,
 ghost use Rattle.mm_render.specs.Forms.{HasSmallProof, IsSmallBehind};
 ghost use Rattle.mm_render.specs.Saved.{IsSpanText, IsShorter, spaces, indent_of};
 ghost use Rattle.mm_render.specs.Saved.{without_return, has_long_ends, long_end, with_ends_of};
-ghost use Rattle.mm_verdict.specs.Mirror.Theorems.{AreProvedSteps};
+ghost use Rattle.mm_verdict.specs.Mirror.Theorems.{IsWholeProof};
 ghost use Rattle.mm_render.specs.Mirror.Shortening.{IsOwnProof};
 ghost use Rattle.mm_render.specs.Mirror.Rewriting.{IsSpanTextOf, IsTextFault};
 
@@ -49,9 +48,7 @@ fn names_of<'a>(
 
 /// The labels that the proof of a theorem spells.
 fn labels_of(alloc: Global, book: &Book, theorem: &Theorem) -> Result<Vec<LabelId>, AskFault>
-    requires steps { AreSteps book.now.statements theorem.now.id.0 theorem.now.steps.moves }
-    requires proved { AreProvedSteps book.now.statements theorem.now.id.0 theorem.now.steps }
-    requires whole { theorem.now.steps.prefix ≡ false }
+    requires { IsWholeProof book.now.statements theorem.now.id.0 theorem.now.steps }
     ensures spelled { IfOk result (λ labels.
         OfMoves book.now.statements theorem.now.id.0 theorem.now.steps.moves
         (λ index s moves. OfSpelling (take index book.now.statements) moves (λ spelled.
@@ -71,9 +68,7 @@ pub(crate) fn normal_text(
     book: &Book,
     theorem: &Theorem,
 ) -> Result<Vec<u8>, AskFault>
-    requires steps { AreSteps book.now.statements theorem.now.id.0 theorem.now.steps.moves }
-    requires proved { AreProvedSteps book.now.statements theorem.now.id.0 theorem.now.steps }
-    requires whole { theorem.now.steps.prefix ≡ false }
+    requires { IsWholeProof book.now.statements theorem.now.id.0 theorem.now.steps }
     ensures text { IfOk result (λ text.
         OfMoves book.now.statements theorem.now.id.0 theorem.now.steps.moves
         (λ index s moves. OfTree (take index book.now.statements) moves
@@ -94,9 +89,7 @@ pub(crate) fn packed_text(
     book: &Book,
     theorem: &Theorem,
 ) -> Result<Vec<u8>, AskFault>
-    requires steps { AreSteps book.now.statements theorem.now.id.0 theorem.now.steps.moves }
-    requires proved { AreProvedSteps book.now.statements theorem.now.id.0 theorem.now.steps }
-    requires whole { theorem.now.steps.prefix ≡ false }
+    requires { IsWholeProof book.now.statements theorem.now.id.0 theorem.now.steps }
     ensures text { IfOk result (λ text.
         OfMoves book.now.statements theorem.now.id.0 theorem.now.steps.moves
         (λ index s moves. OfTree (take index book.now.statements) moves
@@ -126,9 +119,7 @@ fn small_proof<'a>(
     book: &Book<'a>,
     theorem: &Theorem,
 ) -> Result<SmallProof<'a>, AllocError>
-    requires steps { AreSteps book.now.statements theorem.now.id.0 theorem.now.steps.moves }
-    requires proved { AreProvedSteps book.now.statements theorem.now.id.0 theorem.now.steps }
-    requires whole { theorem.now.steps.prefix ≡ false }
+    requires { IsWholeProof book.now.statements theorem.now.id.0 theorem.now.steps }
     ensures proof { IfOk result (λ proof.
         OfMoves book.now.statements theorem.now.id.0 theorem.now.steps.moves
         (λ index s moves. OfTree (take index book.now.statements) moves
@@ -163,9 +154,7 @@ pub struct OwnProof {
 
 /// The small proof of a theorem, and its size.
 pub fn own_proof(alloc: Global, book: &Book, theorem: &Theorem) -> Result<OwnProof, AllocError>
-    requires steps { AreSteps book.now.statements theorem.now.id.0 theorem.now.steps.moves }
-    requires proved { AreProvedSteps book.now.statements theorem.now.id.0 theorem.now.steps }
-    requires whole { theorem.now.steps.prefix ≡ false }
+    requires { IsWholeProof book.now.statements theorem.now.id.0 theorem.now.steps }
     ensures { IfOk result (IsOwnProof book.now.statements theorem.now.id.0
         theorem.now.steps.moves) }
 {
@@ -180,9 +169,7 @@ pub fn own_proof(alloc: Global, book: &Book, theorem: &Theorem) -> Result<OwnPro
 
 /// The text of the small proof of a theorem, in the lines of packed proofs.
 pub(crate) fn small_text(alloc: Global, book: &Book, theorem: &Theorem) -> Result<Vec<u8>, AskFault>
-    requires steps { AreSteps book.now.statements theorem.now.id.0 theorem.now.steps.moves }
-    requires proved { AreProvedSteps book.now.statements theorem.now.id.0 theorem.now.steps }
-    requires whole { theorem.now.steps.prefix ≡ false }
+    requires { IsWholeProof book.now.statements theorem.now.id.0 theorem.now.steps }
     ensures text { IfOk result (λ text.
         OfMoves book.now.statements theorem.now.id.0 theorem.now.steps.moves
         (λ index s moves. OfTree (take index book.now.statements) moves
@@ -278,9 +265,7 @@ fn small_behind(
     indent: usize,
 ) -> Result<Vec<u8>, AllocError>
     requires indent { indent ≤ most_indent }
-    requires steps { AreSteps book.now.statements theorem.now.id.0 theorem.now.steps.moves }
-    requires proved { AreProvedSteps book.now.statements theorem.now.id.0 theorem.now.steps }
-    requires whole { theorem.now.steps.prefix ≡ false }
+    requires theorem { IsWholeProof book.now.statements theorem.now.id.0 theorem.now.steps }
     ensures { IfOk result (λ text.
         OfMoves book.now.statements theorem.now.id.0 theorem.now.steps.moves
         (λ index s moves. OfTree (take index book.now.statements) moves
@@ -327,9 +312,7 @@ pub fn span_text(
     form: Form,
     old: &[u8],
 ) -> Result<Vec<u8>, AskFault>
-    requires steps { AreSteps book.now.statements theorem.now.id.0 theorem.now.steps.moves }
-    requires proved { AreProvedSteps book.now.statements theorem.now.id.0 theorem.now.steps }
-    requires whole { theorem.now.steps.prefix ≡ false }
+    requires { IsWholeProof book.now.statements theorem.now.id.0 theorem.now.steps }
     ensures put { IfOk result (λ put. IsSpanTextOf form book.now.statements theorem.now.id.0
         theorem.now.steps.moves old.now put.items) }
     ensures fault { IfErr result (IsTextFault form book.now.statements theorem.now.id.0

@@ -1,15 +1,14 @@
 //! The lines of `mm show`: the listing of a proof.
 
 ghost use Rattle.std.specs.Prelude.{◌≡◌, ◌++◌, List, take, length, OnOk, IfOk};
-ghost use Rattle.std.specs.Prelude.{false, IfErr};
+ghost use Rattle.std.specs.Prelude.{IfErr};
 ghost use Rattle.std.specs.List.{AllZip, AllByRecursion};
-ghost use Rattle.mm_step.specs.Steps.{AreSteps};
 ghost use Rattle.mm_proof.specs.Verified.{OfMoves};
 ghost use Rattle.mm_listing.specs.Listing.{StepName, ListedStep, IsNameOf, TellsStep, AreLinesOf};
 ghost use Rattle.mm_rules.specs.declared.ask.AskFault.TheVariants.{Memory};
 ghost use Rattle.mm_render.specs.Shown.{name_text, step_text};
 ghost use Rattle.mm_render.specs.Shown.{listing_text as text_of_listing};
-ghost use Rattle.mm_verdict.specs.Mirror.Theorems.{AreProvedSteps};
+ghost use Rattle.mm_verdict.specs.Mirror.Theorems.{IsWholeProof};
 ghost use Rattle.mm_render.specs.Mirror.Theorems.{IsListingOf};
 
 use mm_frame::Book;
@@ -64,9 +63,7 @@ pub fn text_of(alloc: Global, book: &Book, lines: &[Line]) -> Result<Vec<u8>, Al
 
 /// The lines of the listing of a theorem's proof.
 fn lines_of(alloc: Global, book: &Book, theorem: &Theorem) -> Result<Vec<Line>, AskFault>
-    requires steps { AreSteps book.now.statements theorem.now.id.0 theorem.now.steps.moves }
-    requires proved { AreProvedSteps book.now.statements theorem.now.id.0 theorem.now.steps }
-    requires whole { theorem.now.steps.prefix ≡ false }
+    requires { IsWholeProof book.now.statements theorem.now.id.0 theorem.now.steps }
     ensures listed { IfOk result (λ lines.
         OfMoves book.now.statements theorem.now.id.0 theorem.now.steps.moves
         (λ index s moves. AreLinesOf book.now.statements (take index book.now.statements) moves
@@ -83,9 +80,7 @@ fn lines_of(alloc: Global, book: &Book, theorem: &Theorem) -> Result<Vec<Line>, 
 
 /// The text of the listing of a theorem's proof.
 pub fn listing_text(alloc: Global, book: &Book, theorem: &Theorem) -> Result<Vec<u8>, AskFault>
-    requires steps { AreSteps book.now.statements theorem.now.id.0 theorem.now.steps.moves }
-    requires proved { AreProvedSteps book.now.statements theorem.now.id.0 theorem.now.steps }
-    requires whole { theorem.now.steps.prefix ≡ false }
+    requires { IsWholeProof book.now.statements theorem.now.id.0 theorem.now.steps }
     ensures text { IfOk result (λ text.
         OfMoves book.now.statements theorem.now.id.0 theorem.now.steps.moves
         (λ index s moves. IsListingOf (take index book.now.statements) moves text.items)) }

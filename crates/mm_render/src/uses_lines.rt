@@ -3,13 +3,12 @@
 ghost use Rattle.std.specs.Prelude.{◌≡◌, ◌++◌, List, ℕ, take, length, replicate, true, false};
 ghost use Rattle.std.specs.Prelude.{OnOk, IfOk, IfErr, slice_index_or, not};
 ghost use Rattle.mm_listing.specs.Listing.{ListedStep, TellsStep, TellSteps, AreLinesWith};
-ghost use Rattle.mm_step.specs.Steps.{AreSteps};
 ghost use Rattle.mm_listing.specs.Uses.{AreUses, IsRoot, rows_of};
 ghost use Rattle.mm_proof.specs.Verified.{OfMoves};
 ghost use Rattle.mm_rules.specs.declared.ask.AskFault.TheVariants.{Memory};
 ghost use Rattle.mm_render.specs.ShownUses.{more_uses_text, used_step_text, used_steps_text};
 ghost use Rattle.mm_render.specs.ShownUses.{uses_text as text_of_uses};
-ghost use Rattle.mm_verdict.specs.Mirror.Theorems.{AreProvedSteps};
+ghost use Rattle.mm_verdict.specs.Mirror.Theorems.{IsWholeProof};
 ghost use Rattle.mm_render.specs.Mirror.Theorems.{IsUsesTextOf};
 
 use crate::listing_lines::push_name;
@@ -109,9 +108,7 @@ fn used_of(
     theorem: &Theorem,
     essential: bool,
 ) -> Result<UsedSteps, AskFault>
-    requires steps { AreSteps book.now.statements theorem.now.id.0 theorem.now.steps.moves }
-    requires proved { AreProvedSteps book.now.statements theorem.now.id.0 theorem.now.steps }
-    requires whole { theorem.now.steps.prefix ≡ false }
+    requires { IsWholeProof book.now.statements theorem.now.id.0 theorem.now.steps }
     ensures used { IfOk result (λ used.
         OfMoves book.now.statements theorem.now.id.0 theorem.now.steps.moves
         (λ index s moves. AreLinesWith book.now.statements (take index book.now.statements) moves
@@ -135,9 +132,7 @@ fn told_lines(
     theorem: &Theorem,
     told: &[bool],
 ) -> Result<Vec<Line>, AskFault>
-    requires steps { AreSteps book.now.statements theorem.now.id.0 theorem.now.steps.moves }
-    requires proved { AreProvedSteps book.now.statements theorem.now.id.0 theorem.now.steps }
-    requires whole { theorem.now.steps.prefix ≡ false }
+    requires { IsWholeProof book.now.statements theorem.now.id.0 theorem.now.steps }
     ensures listed { IfOk result (λ lines.
         OfMoves book.now.statements theorem.now.id.0 theorem.now.steps.moves
         (λ index s moves. AreLinesWith book.now.statements (take index book.now.statements) moves
@@ -154,9 +149,7 @@ fn told_lines(
 
 /// The text of all steps.
 fn whole_text(alloc: Global, book: &Book, theorem: &Theorem) -> Result<Vec<u8>, AskFault>
-    requires steps { AreSteps book.now.statements theorem.now.id.0 theorem.now.steps.moves }
-    requires proved { AreProvedSteps book.now.statements theorem.now.id.0 theorem.now.steps }
-    requires whole { theorem.now.steps.prefix ≡ false }
+    requires { IsWholeProof book.now.statements theorem.now.id.0 theorem.now.steps }
     ensures text { IfOk result (λ text.
         OfMoves book.now.statements theorem.now.id.0 theorem.now.steps.moves
         (λ index s moves.
@@ -171,9 +164,7 @@ fn whole_text(alloc: Global, book: &Book, theorem: &Theorem) -> Result<Vec<u8>, 
 /// The text of the steps that are reached through `$e`. It asks for their expressions alone, once it
 /// is known which they are: those of the others may take far more memory than the text.
 fn essential_text(alloc: Global, book: &Book, theorem: &Theorem) -> Result<Vec<u8>, AskFault>
-    requires steps { AreSteps book.now.statements theorem.now.id.0 theorem.now.steps.moves }
-    requires proved { AreProvedSteps book.now.statements theorem.now.id.0 theorem.now.steps }
-    requires whole { theorem.now.steps.prefix ≡ false }
+    requires { IsWholeProof book.now.statements theorem.now.id.0 theorem.now.steps }
     ensures text { IfOk result (λ text.
         OfMoves book.now.statements theorem.now.id.0 theorem.now.steps.moves
         (λ index s moves.
@@ -193,9 +184,7 @@ pub(crate) fn uses_text(
     theorem: &Theorem,
     essential: bool,
 ) -> Result<Vec<u8>, AskFault>
-    requires steps { AreSteps book.now.statements theorem.now.id.0 theorem.now.steps.moves }
-    requires proved { AreProvedSteps book.now.statements theorem.now.id.0 theorem.now.steps }
-    requires whole { theorem.now.steps.prefix ≡ false }
+    requires { IsWholeProof book.now.statements theorem.now.id.0 theorem.now.steps }
     ensures text { IfOk result (λ text.
         OfMoves book.now.statements theorem.now.id.0 theorem.now.steps.moves
         (λ index s moves.

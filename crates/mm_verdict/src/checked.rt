@@ -1,7 +1,7 @@
 //! A database in which nothing is at fault.
 
 ghost use Rattle.std.specs.Prelude.{◌≡◌, ◌<◌, ◌↔◌, List, [], map, length, slice_get};
-ghost use Rattle.std.specs.Prelude.{true, false, Some, None, IsTrue, IfOk, IfErr, ℕ};
+ghost use Rattle.std.specs.Prelude.{true, Some, None, IsTrue, IfOk, IfErr, ℕ};
 ghost use Rattle.mm_rules.specs.declared.ask.AskFault.TheVariants.{Memory};
 ghost use Rattle.std.specs.List.{AllByRecursion};
 
@@ -65,8 +65,7 @@ impl<'a> Checked<'a> {
     ghost use Rattle.mm_rules.specs.Verdict.{is_proof, sentences};
     ghost use Rattle.mm_rules.specs.Rests.{IsNamed, IsAskFault};
     ghost use Rattle.mm_rules.specs.Rests.{IsNumberWhere};
-    ghost use Rattle.mm_step.specs.Steps.{AreSteps};
-    ghost use Rattle.mm_verdict.specs.Mirror.Theorems.{AreProvedSteps, AreStepsOf};
+    ghost use Rattle.mm_verdict.specs.Mirror.Theorems.{AreStepsOf, IsWholeProof};
     ghost use Rattle.mm_rules.specs.Answer.{IsKeptOf};
     ghost use Rattle.mm_verdict.specs.Stated.{IsStatementFault};
     ghost use Rattle.mm_verdict.specs.Mirror.Rewriting.{IsHomeOf};
@@ -181,11 +180,8 @@ impl<'a> Checked<'a> {
     /// The `$p` with this label, and the steps of its proof. No proof is kept by `check`, so the
     /// files are read again up to the `$p`.
     pub fn read_theorem(&self, alloc: Global, label: &[u8]) -> Result<Theorem, AskFault>
-        ensures usable { IfOk result (λ theorem.
-            AreSteps self.now.sentences theorem.id.0 theorem.steps.moves) }
-        ensures proved { IfOk result (λ theorem.
-            AreProvedSteps self.now.sentences theorem.id.0 theorem.steps) }
-        ensures whole { IfOk result (λ theorem. theorem.steps.prefix ≡ false) }
+        ensures theorem { IfOk result (λ theorem.
+            IsWholeProof self.now.sentences theorem.id.0 theorem.steps) }
         ensures read { IfOk result (λ theorem. (statements : List PlainStatement)
             → Reads self.now.files statements None
             → (self.now.sentences ≡ sentences statements)
@@ -232,11 +228,8 @@ impl<'a> Checked<'a> {
     ) -> Result<Theorem, AskFault>
         requires { IsTheoremIn self.now.files id.0 (plain_statement statement.now) }
         ensures id { IfOk result (λ theorem. theorem.id.0 ≡ id.0) }
-        ensures usable { IfOk result (λ theorem.
-            AreSteps self.now.sentences theorem.id.0 theorem.steps.moves) }
-        ensures proved { IfOk result (λ theorem.
-            AreProvedSteps self.now.sentences theorem.id.0 theorem.steps) }
-        ensures whole { IfOk result (λ theorem. theorem.steps.prefix ≡ false) }
+        ensures theorem { IfOk result (λ theorem.
+            IsWholeProof self.now.sentences theorem.id.0 theorem.steps) }
         ensures told { IfOk result (λ theorem. (statements : List PlainStatement)
             → Reads self.now.files statements None → self.now.sentences ≡ sentences statements) }
         ensures read { IfOk result (λ theorem. (label : List ℕ)

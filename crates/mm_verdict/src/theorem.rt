@@ -7,7 +7,7 @@ ghost use Rattle.mm_proof.specs.Parsed.{OfProof, SaySteps};
 ghost use Rattle.mm_step.specs.Steps.{AreSteps};
 ghost use Rattle.mm_rules.specs.declared.ask.AskFault.TheVariants.{Memory};
 ghost use Rattle.mm_rules.specs.Verdict.{proof_of};
-ghost use Rattle.mm_verdict.specs.Mirror.Theorems.{IsProofOf, AreProvedSteps, SayStepsOf};
+ghost use Rattle.mm_verdict.specs.Mirror.Theorems.{IsProofOf, IsWholeProof, SayStepsOf};
 
 use mm_base::Statement;
 use mm_frame::{Book, LabelId};
@@ -74,11 +74,8 @@ pub fn read_theorem<'a>(
         × (theorem.span ≡ (plain_statement statement.now).span)) }
     ensures said { IfOk result (λ theorem. SayStepsOf book.now.statements theorem.id.0
         (proof_of (plain_statement statement.now)) theorem.steps.moves) }
-    ensures usable { IfOk result (λ theorem.
-        AreSteps book.now.statements theorem.id.0 theorem.steps.moves) }
-    ensures proved { IfOk result (λ theorem.
-        AreProvedSteps book.now.statements theorem.id.0 theorem.steps) }
-    ensures whole { IfOk result (λ theorem. theorem.steps.prefix ≡ false) }
+    ensures theorem { IfOk result (λ theorem.
+        IsWholeProof book.now.statements theorem.id.0 theorem.steps) }
     ensures memory { IfErr result (λ fault. fault ≡ Memory) }
 {
     let steps = read_steps(reader, alloc, profile, book, id, statement)?;

@@ -1,6 +1,6 @@
 -- What the code knows of a theorem that it reads again. This file mirrors the code, and is cited by
 -- private contracts alone.
-use Rattle.std.specs.Prelude.{◌≡◌, ℕ, List, take, slice_get, true, Some, None}
+use Rattle.std.specs.Prelude.{◌≡◌, ℕ, List, take, slice_get, true, false, Some, None}
 use Rattle.mm_base.specs.Statement.{PlainStatement}
 use Rattle.mm_text.specs.Remaining.{Remaining}
 use Rattle.mm_frame.specs.Sentence.{Sentence, sentence_of, IsLabelled}
@@ -10,7 +10,7 @@ use Rattle.mm_proof.specs.Proof.{Prove}
 use Rattle.mm_step.specs.Proof.{IsWithin}
 use Rattle.mm_step.specs.declared.profile.Profile.{Profile}
 use Rattle.mm_step.specs.Profiles.{limit_of}
-use Rattle.mm_step.specs.Steps.{AreNumberedMoves, IsProofNumber}
+use Rattle.mm_step.specs.Steps.{AreNumberedMoves, AreSteps, IsProofNumber}
 use Rattle.mm_proof.specs.ReadSteps.{ReadSteps}
 use Rattle.mm_proof.specs.Parsed.{OfProof}
 use Rattle.mm_proof.specs.UnderProfile.{IsProvedUnder}
@@ -39,6 +39,11 @@ abbrev pub AreProvedSteps : List Sentence → (id : ℕ) → ReadSteps → Type 
 AreProvedSteps statements id steps =
     OfMoves statements id steps.moves (λ index s moves.
     Prove (IsWithin (limit_of steps.profile)) (take index statements) s moves)
+
+-- the steps are of the `$p` with this number, prove it, and are those of the whole of its proof
+abbrev pub IsWholeProof : List Sentence → (id : ℕ) → ReadSteps → Type 0
+IsWholeProof statements id steps =
+    AreSteps statements id steps.moves × AreProvedSteps statements id steps × (steps.prefix ≡ false)
 
 -- the steps are those of the theorem with the label, which has this number and a complete proof
 pub record AreStepsOf (statements : List PlainStatement) (label : List ℕ) (id : ℕ)

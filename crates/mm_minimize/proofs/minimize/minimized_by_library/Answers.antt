@@ -1,11 +1,9 @@
 -- The theorem is read again, and its shortest proof is that of the database.
 use Rattle.mm_minimize.proofs.minimize.minimized_by_library.Goals as goal
 
-pub minimized-requires-clause-steps : goal.minimized-requires-clause-steps
-minimized-requires-clause-steps g c = rw c.in_ok-shortening.ensures.database c.in_ok-theorem.ensures.usable
-
-pub minimized-requires-clause-proved : goal.minimized-requires-clause-proved
-minimized-requires-clause-proved g c = rw c.in_ok-shortening.ensures.database c.in_ok-theorem.ensures.proved
+pub minimized-requires-clause-theorem : goal.minimized-requires-clause-theorem
+minimized-requires-clause-theorem g c =
+    rw c.in_ok-shortening.ensures.database c.in_ok-theorem.ensures.theorem
 
 pub returns-clause-text : goal.returns-clause-text
 returns-clause-text g c = λ statements reads.

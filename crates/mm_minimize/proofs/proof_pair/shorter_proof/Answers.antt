@@ -7,6 +7,7 @@ pub returns-in-Some-clause-shorter : goal.returns-in-Some-clause-shorter
 returns-in-Some-clause-shorter g c =
     compared_so c.args.shortening.now.checked.now c.args.id.0 (plain_statement c.args.statement.now)
     c.in_ok-theorem.theorem c.in_ok-own.own _
-    c.in_ok-theorem.ensures.id c.in_ok-theorem.ensures.told c.in_ok-theorem.ensures.proved
+    c.in_ok-theorem.ensures.id c.in_ok-theorem.ensures.told
+    c.in_ok-theorem.ensures.theorem.1
     c.in_ok-theorem.ensures.read c.in_ok-own.ensures (rw c.in-Some.is at c.in_ok-found.ensures.anew)
     (rw c.in-Some.is at c.in_ok-found.ensures.found)

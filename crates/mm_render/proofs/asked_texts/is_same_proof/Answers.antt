@@ -10,9 +10,9 @@ use Rattle.mm_verdict.proofs.Questions.AskedTheorems.{why}
 use Rattle.mm_render.proofs.ToldProofs.ComparedTexts.{compared_of, same_fault, asked_fault}
 use Rattle.mm_render.proofs.asked_texts.is_same_proof.Goals as goal
 
-pub is_same-requires-clause-proved : goal.is_same-requires-clause-proved
-is_same-requires-clause-proved c =
-    rw (ap (λ (v : Conclusion). v.sentences) c.checked.view_is) c.in_ok-theorem.ensures.proved
+pub is_same-requires : goal.is_same-requires
+is_same-requires c =
+    rw (ap (λ (v : Conclusion). v.sentences) c.checked.view_is) c.in_ok-theorem.ensures.theorem
 
 pub returns-in_err-theorem-clause-fault : goal.returns-in_err-theorem-clause-fault
 returns-in_err-theorem-clause-fault c =

@@ -8,9 +8,9 @@ use Rattle.mm_render.proofs.ToldProofs.ToldTrees.{told_of_tree, normal_fault, as
 use Rattle.mm_verdict.proofs.Questions.AskedTheorems.{why}
 use Rattle.mm_render.proofs.asked_texts.normal_form.Goals as goal
 
-pub normal_text-requires-clause-proved : goal.normal_text-requires-clause-proved
-normal_text-requires-clause-proved c =
-    rw (ap (λ (v : Conclusion). v.sentences) c.checked.view_is) c.in_ok-theorem.ensures.proved
+pub normal_text-requires : goal.normal_text-requires
+normal_text-requires c =
+    rw (ap (λ (v : Conclusion). v.sentences) c.checked.view_is) c.in_ok-theorem.ensures.theorem
 
 pub returns-in_err-theorem-clause-fault : goal.returns-in_err-theorem-clause-fault
 returns-in_err-theorem-clause-fault c =
@@ -25,7 +25,7 @@ returns-clause-text c =
     (λ text laid statements reads.
     let read = c.in_ok-theorem.ensures.read statements reads in
     told_of_tree _ _ _ _ c.in_ok-theorem.theorem.steps (told ∙ read.0) read.1
-    (rw told c.in_ok-theorem.ensures.proved) (λ before s trees. IsNormalText trees text.items) laid)
+    (rw told c.in_ok-theorem.ensures.theorem.1) (λ before s trees. IsNormalText trees text.items) laid)
     c.normal_text.ensures.text
 
 pub returns-clause-fault : goal.returns-clause-fault
@@ -35,5 +35,5 @@ returns-clause-fault c =
     (λ fault why statements reads.
     let read = c.in_ok-theorem.ensures.read statements reads in
     normal_fault _ _ _ _ c.in_ok-theorem.theorem.steps fault (told ∙ read.0) read.1
-    (rw told c.in_ok-theorem.ensures.proved) why)
+    (rw told c.in_ok-theorem.ensures.theorem.1) why)
     c.normal_text.ensures.fault

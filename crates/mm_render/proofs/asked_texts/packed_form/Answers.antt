@@ -6,9 +6,9 @@ use Rattle.mm_render.specs.Forms.{IsPackedText}
 use Rattle.mm_render.proofs.ToldProofs.ToldTrees.{told_of_tree}
 use Rattle.mm_render.proofs.asked_texts.packed_form.Goals as goal
 
-pub packed_text-requires-clause-proved : goal.packed_text-requires-clause-proved
-packed_text-requires-clause-proved c =
-    rw (ap (λ (v : Conclusion). v.sentences) c.checked.view_is) c.in_ok-theorem.ensures.proved
+pub packed_text-requires : goal.packed_text-requires
+packed_text-requires c =
+    rw (ap (λ (v : Conclusion). v.sentences) c.checked.view_is) c.in_ok-theorem.ensures.theorem
 
 pub returns-clause-text : goal.returns-clause-text
 returns-clause-text c =
@@ -17,6 +17,6 @@ returns-clause-text c =
     (λ text laid statements reads.
     let read = c.in_ok-theorem.ensures.read statements reads in
     told_of_tree _ _ _ _ c.in_ok-theorem.theorem.steps (told ∙ read.0) read.1
-    (rw told c.in_ok-theorem.ensures.proved)
+    (rw told c.in_ok-theorem.ensures.theorem.1)
     (λ before s trees. IsPackedText before s trees text.items) laid)
     c.packed_text.ensures.text

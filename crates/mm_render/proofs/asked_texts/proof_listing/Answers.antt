@@ -5,9 +5,9 @@ use Rattle.mm_rules.specs.Conclusion.{Conclusion}
 use Rattle.mm_render.proofs.ToldProofs.ToldTrees.{shown_of}
 use Rattle.mm_render.proofs.asked_texts.proof_listing.Goals as goal
 
-pub listing_text-requires-clause-proved : goal.listing_text-requires-clause-proved
-listing_text-requires-clause-proved c =
-    rw (ap (λ (v : Conclusion). v.sentences) c.checked.view_is) c.in_ok-theorem.ensures.proved
+pub listing_text-requires : goal.listing_text-requires
+listing_text-requires c =
+    rw (ap (λ (v : Conclusion). v.sentences) c.checked.view_is) c.in_ok-theorem.ensures.theorem
 
 pub returns-clause-shown : goal.returns-clause-shown
 returns-clause-shown c =

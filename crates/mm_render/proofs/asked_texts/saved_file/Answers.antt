@@ -33,9 +33,9 @@ bytes_of-old-requires c =
     (holds_span now.files statements r.index r.s c.in_ok-theorem.theorem.file
     c.in_ok-theorem.theorem.span reads r.there r.complete home.0 home.1)
 
-pub span_text-requires-clause-proved : goal.span_text-requires-clause-proved
-span_text-requires-clause-proved c =
-    rw (ap (λ (v : Conclusion). v.sentences) c.checked.view_is) c.in_ok-theorem.ensures.proved
+pub span_text-requires : goal.span_text-requires
+span_text-requires c =
+    rw (ap (λ (v : Conclusion). v.sentences) c.checked.view_is) c.in_ok-theorem.ensures.theorem
 
 pub returns-in_err-put-clause-fault : goal.returns-in_err-put-clause-fault
 returns-in_err-put-clause-fault c =
@@ -45,7 +45,7 @@ returns-in_err-put-clause-fault c =
     (λ statements reads.
     let read = c.in_ok-theorem.ensures.read statements reads in
     text_save_fault c.args.form _ _ _ _ _ c.in_ok-theorem.theorem.steps c.in_err-put.field-0.0
-    (told ∙ read.0) read.1 (rw told c.in_ok-theorem.ensures.proved) c.in_err-put.ensures.fault)
+    (told ∙ read.0) read.1 (rw told c.in_ok-theorem.ensures.theorem.1) c.in_err-put.ensures.fault)
 
 pub put_in-requires-clause-there : goal.put_in-requires-clause-there
 put_in-requires-clause-there c =
@@ -82,7 +82,7 @@ returns-in_err-bytes-clause-fault c =
     let read = c.in_ok-theorem.ensures.read statements reads in
     put_save_fault c.args.form _ _ _ _ _ c.in_ok-theorem.theorem.steps _ _ _ _ _ (told ∙ read.0)
     read.1
-    (rw told c.in_ok-theorem.ensures.proved) c.in_ok-put.ensures.put
+    (rw told c.in_ok-theorem.ensures.theorem.1) c.in_ok-put.ensures.put
     (c.in_ok-theorem.ensures.home statements reads) stood put)
 
 pub returns-clause-saved : goal.returns-clause-saved
@@ -94,5 +94,5 @@ returns-clause-saved c = λ statements reads.
     let stood = rw files at c.bytes_of-old.ensures in
     let read = c.in_ok-theorem.ensures.read statements reads in
     saved_of c.args.form _ _ _ _ _ c.in_ok-theorem.theorem.steps _ _ _ _ _ (told ∙ read.0) read.1
-    (rw told c.in_ok-theorem.ensures.proved) c.in_ok-put.ensures.put
+    (rw told c.in_ok-theorem.ensures.theorem.1) c.in_ok-put.ensures.put
     (c.in_ok-theorem.ensures.home statements reads) stood put

@@ -7,9 +7,9 @@ use Rattle.mm_rules.specs.Conclusion.{Conclusion}
 use Rattle.mm_render.specs.Mirror.Rewriting.{IsSpanTextOf}
 use Rattle.mm_render.proofs.asked_texts.small_span_text.Goals as goal
 
-pub span_text-requires-clause-proved : goal.span_text-requires-clause-proved
-span_text-requires-clause-proved c =
-    rw (ap (λ (v : Conclusion). v.sentences) c.checked.view_is) c.requires.proved
+pub span_text-requires : goal.span_text-requires
+span_text-requires c =
+    rw (ap (λ (v : Conclusion). v.sentences) c.checked.view_is) c.requires
 
 pub returns-clause-put : goal.returns-clause-put
 returns-clause-put c =

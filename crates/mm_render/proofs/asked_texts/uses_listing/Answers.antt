@@ -5,9 +5,9 @@ use Rattle.mm_rules.specs.Conclusion.{Conclusion}
 use Rattle.mm_render.proofs.ToldProofs.ShownUses.{uses_shown}
 use Rattle.mm_render.proofs.asked_texts.uses_listing.Goals as goal
 
-pub uses_text-requires-clause-proved : goal.uses_text-requires-clause-proved
-uses_text-requires-clause-proved c =
-    rw (ap (λ (v : Conclusion). v.sentences) c.checked.view_is) c.in_ok-theorem.ensures.proved
+pub uses_text-requires : goal.uses_text-requires
+uses_text-requires c =
+    rw (ap (λ (v : Conclusion). v.sentences) c.checked.view_is) c.in_ok-theorem.ensures.theorem
 
 pub returns-clause-shown : goal.returns-clause-shown
 returns-clause-shown c =

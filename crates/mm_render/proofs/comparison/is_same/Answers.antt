@@ -4,7 +4,7 @@ use Rattle.mm_render.proofs.ToldProofs.ToldTrees.{steps_make}
 use Rattle.mm_render.proofs.comparison.is_same.Goals as goal
 
 pub same-requires-clause-first_makes : goal.same-requires-clause-first_makes
-same-requires-clause-first_makes c = steps_make c.args.book.now.statements c.args.theorem.now.id.0 c.args.theorem.now.steps c.requires.proved
+same-requires-clause-first_makes c = steps_make c.args.book.now.statements c.args.theorem.now.id.0 c.args.theorem.now.steps c.requires.1
 
 pub same-requires-clause-second_makes : goal.same-requires-clause-second_makes
 same-requires-clause-second_makes c = steps_make c.args.book.now.statements c.args.theorem.now.id.0 c.in_ok-steps.steps c.in_ok-steps.ensures.proved

@@ -15,7 +15,7 @@ use Rattle.mm_render.proofs.forms.labels_of.Goals as goal
 pub expand-requires-clause-makes : goal.expand-requires-clause-makes
 expand-requires-clause-makes c =
     steps_make c.args.book.now.statements c.args.theorem.now.id.0 c.args.theorem.now.steps
-    c.requires.proved
+    c.requires.1
 
 pub returns-clause-spelled : goal.returns-clause-spelled
 returns-clause-spelled c = λ index s moves number numbered label below made. (

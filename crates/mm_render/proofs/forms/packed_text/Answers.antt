@@ -9,7 +9,7 @@ use Rattle.mm_render.proofs.ToldProofs.ToldTrees.{steps_make}
 use Rattle.mm_render.proofs.forms.packed_text.Goals as goal
 
 pub compress-requires-clause-makes : goal.compress-requires-clause-makes
-compress-requires-clause-makes c = steps_make c.args.book.now.statements c.args.theorem.now.id.0 c.args.theorem.now.steps c.requires.proved
+compress-requires-clause-makes c = steps_make c.args.book.now.statements c.args.theorem.now.id.0 c.args.theorem.now.steps c.requires.1
 
 pub returns-clause-text : goal.returns-clause-text
 returns-clause-text c = λ index s moves number numbered label below made.

@@ -11,7 +11,7 @@ use Rattle.mm_render.proofs.forms.small_proof.Goals as goal
 pub compress_small-requires-clause-makes : goal.compress_small-requires-clause-makes
 compress_small-requires-clause-makes c =
     steps_make c.args.book.now.statements c.args.theorem.now.id.0 c.args.theorem.now.steps
-    c.requires.proved
+    c.requires.1
 
 pub returns-clause-proof : goal.returns-clause-proof
 returns-clause-proof c = λ index s moves number numbered label below made.

@@ -7,7 +7,7 @@ use Rattle.mm_render.proofs.listing_lines.listing_text.Goals as goal
 
 pub text_of-requires : goal.text_of-requires
 text_of-requires c =
-    let a = c.requires.steps in
+    let a = c.requires.0 in
     let told = c.in_ok-lines.ensures.listed a.index a.s a.moves a.proof a.numbered in
     (told.0, subst (λ (lines : List Line). AllZip (TellsStep c.args.book.now.statements) lines told.0) (sym c.deref.ensures.value) told.2)
 

@@ -8,7 +8,7 @@ use Rattle.mm_render.proofs.uses_lines.essential_text.Goals as goal
 
 pub text_of-requires-clause-lines : goal.text_of-requires-clause-lines
 text_of-requires-clause-lines c =
-    let a = c.requires.steps in
+    let a = c.requires.0 in
     let l = c.in_ok-lines.ensures.listed a.index a.s a.moves a.proof a.numbered in (
       l.0,
       rw (c.deref-2.ensures.value, c.deref-4.ensures.value)
@@ -17,7 +17,7 @@ text_of-requires-clause-lines c =
 
 pub text_of-requires-clause-uses : goal.text_of-requires-clause-uses
 text_of-requires-clause-uses c =
-    let a = c.requires.steps in
+    let a = c.requires.0 in
     let used = c.in_ok-used.used in
     let u = c.in_ok-used.ensures.used a.index a.s a.moves a.proof a.numbered in
     let l = c.in_ok-lines.ensures.listed a.index a.s a.moves a.proof a.numbered in
@@ -35,7 +35,7 @@ text_of-requires-clause-uses c =
 
 pub text_of-requires-clause-told : goal.text_of-requires-clause-told
 text_of-requires-clause-told c =
-    let a = c.requires.steps in
+    let a = c.requires.0 in
     let u = c.in_ok-used.ensures.used a.index a.s a.moves a.proof a.numbered in
     let l = c.in_ok-lines.ensures.listed a.index a.s a.moves a.proof a.numbered in
     omega (

@@ -5,8 +5,8 @@ use Rattle.mm_render.proofs.uses_lines.told_lines.Goals as goal
 
 pub unreachable-requires : goal.unreachable-requires
 unreachable-requires c =
-    let a = c.requires.steps in
+    let a = c.requires.0 in
     no_rule_fault c.partial_listing.result c.in-Err-Rule.field-0-0 c.in-Err-Rule.field-0-1
     (c.in-Err-Rule.is ∙ ap Err c.in-Err-Rule.field-0-is)
     (c.partial_listing.ensures.accepts a.index a.s a.moves a.proof a.numbered
-    (c.requires.proved a.index a.s a.moves a.proof a.numbered))
+    (c.requires.1 a.index a.s a.moves a.proof a.numbered))

@@ -12,7 +12,7 @@ use Rattle.mm_render.proofs.uses_lines.whole_text.Goals as goal
 -- as many flags as lines
 many : (c : In_ok-told) → length c.in_ok-used.used.lines.items ≡ c.len.result
 many c =
-    let a = c.requires.steps in
+    let a = c.requires.0 in
     let used = c.in_ok-used.used in
     let u = c.in_ok-used.ensures.used a.index a.s a.moves a.proof a.numbered in
     let rows : length (rows_of used.uses.items) ≡ length used.uses.items =
@@ -33,7 +33,7 @@ flags_told c steps tells =
 
 pub text_of-requires-clause-lines : goal.text_of-requires-clause-lines
 text_of-requires-clause-lines c =
-    let a = c.requires.steps in
+    let a = c.requires.0 in
     let u = c.in_ok-used.ensures.used a.index a.s a.moves a.proof a.numbered in (
       u.0.0,
       rw (c.deref.ensures.value, c.deref-3.ensures.value)

@@ -20,7 +20,7 @@ returns-clause-text c =
     let told : List Sentence = c.args.book.now.statements in
     let id : ℕ = c.args.id.0 in
     let said = rw c.in_ok-theorem.ensures.id at c.in_ok-theorem.ensures.said in
-    let proved = rw c.in_ok-theorem.ensures.id at c.in_ok-theorem.ensures.proved in
+    let proved = rw c.in_ok-theorem.ensures.id at c.in_ok-theorem.ensures.theorem.1 in
     let (label, named) = label_there s c.requires.formed c.requires.theorem.number.provable in
     IfOk-weaker c.span_text.result _ _
     (λ put laid bytes t stands. theorem_replaced c.args.form told s label id
@@ -33,7 +33,7 @@ returns-clause-fault c =
     let s : PlainStatement = plain_statement c.args.statement.now in
     let told : List Sentence = c.args.book.now.statements in
     let said = rw c.in_ok-theorem.ensures.id at c.in_ok-theorem.ensures.said in
-    let proved = rw c.in_ok-theorem.ensures.id at c.in_ok-theorem.ensures.proved in
+    let proved = rw c.in_ok-theorem.ensures.id at c.in_ok-theorem.ensures.theorem.1 in
     why c.span_text.result _ _
     (λ fault is. theorem_fault c.args.form told s c.args.id.0 c.in_ok-theorem.theorem.steps fault
     said proved (rw c.in_ok-theorem.ensures.id at is))

@@ -8,9 +8,11 @@ use Rattle.mm_verdict.proofs.theorem.read_theorem.Goals as goal
 pub returns-clause-said : goal.returns-clause-said
 returns-clause-said c = λ index s number. let told = c.in_ok-steps.ensures.said index s number in (told.1, told.2, told.3)
 
-pub returns-clause-proved : goal.returns-clause-proved
-returns-clause-proved c =
+pub returns-clause-theorem : goal.returns-clause-theorem
+returns-clause-theorem c =
     let tokens = proof_of (plain_statement c.args.statement.now) in
     let said : SayStepsOf c.args.book.now.statements c.args.id.0 tokens c.in_ok-steps.steps.moves =
     λ index s number. let told = c.in_ok-steps.ensures.said index s number in (told.1, told.2, told.3) in
-    steps_prove c.args.profile c.args.book.now.statements c.args.id.0 tokens c.in_ok-steps.steps c.requires.proof c.in_ok-steps.ensures.profile said
+    let proved = steps_prove c.args.profile c.args.book.now.statements c.args.id.0 tokens
+    c.in_ok-steps.steps c.requires.proof c.in_ok-steps.ensures.profile said in
+    (c.in_ok-steps.ensures.usable, proved, c.in_ok-steps.ensures.whole)

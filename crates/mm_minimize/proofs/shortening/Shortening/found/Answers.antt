@@ -7,7 +7,7 @@ use Rattle.mm_minimize.proofs.shortening.Shortening.found.Goals as goal
 pub is_settled-requires-clause-within : goal.is_settled-requires-clause-within
 is_settled-requires-clause-within g c =
     numbered_within c.args.self.now.checked.now.sentences c.args.theorem.now.id.0
-    c.requires.steps.index c.requires.steps.s c.requires.steps.proof.numbered
+    c.requires.theorem.0.index c.requires.theorem.0.s c.requires.theorem.0.proof.numbered
 
 pub shorter-requires-clause-unmarked : goal.shorter-requires-clause-unmarked
 shorter-requires-clause-unmarked g c = λ statements index s reads at marked.
@@ -16,4 +16,4 @@ shorter-requires-clause-unmarked g c = λ statements index s reads at marked.
 
 pub candidate-requires-clause-proved : goal.candidate-requires-clause-proved
 candidate-requires-clause-proved g c =
-    rw (ap (λ (v : Conclusion). v.sentences) c.checked.view_is) c.requires.proved
+    rw (ap (λ (v : Conclusion). v.sentences) c.checked.view_is) c.requires.theorem.1

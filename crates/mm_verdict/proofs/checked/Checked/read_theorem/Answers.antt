@@ -91,13 +91,9 @@ returns-clause-read c =
     ))
     c.read_theorem.ensures.id c.read_theorem.ensures.said
 
-pub returns-clause-proved : goal.returns-clause-proved
-returns-clause-proved c =
-    rw (ap (λ (v : Conclusion). v.sentences) c.self.view_is) at c.read_theorem.ensures.proved
-
-pub returns-clause-usable : goal.returns-clause-usable
-returns-clause-usable c =
-    rw (ap (λ (v : Conclusion). v.sentences) c.self.view_is) at c.read_theorem.ensures.usable
+pub returns-clause-theorem : goal.returns-clause-theorem
+returns-clause-theorem c =
+    rw (ap (λ (v : Conclusion). v.sentences) c.self.view_is) at c.read_theorem.ensures.theorem
 
 pub returns-clause-home : goal.returns-clause-home
 returns-clause-home c =

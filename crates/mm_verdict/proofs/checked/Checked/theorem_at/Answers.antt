@@ -28,9 +28,9 @@ read_theorem-requires-clause-room c =
     let well = subst KeptWell c.self.view_is c.self.invariant in
     room_again now c.args.id.0 (plain_statement c.args.statement.now) well c.requires
 
-pub returns-clause-proved : goal.returns-clause-proved
-returns-clause-proved c =
-    rw (ap (λ (v : Conclusion). v.sentences) c.self.view_is) at c.read_theorem.ensures.proved
+pub returns-clause-theorem : goal.returns-clause-theorem
+returns-clause-theorem c =
+    rw (ap (λ (v : Conclusion). v.sentences) c.self.view_is) at c.read_theorem.ensures.theorem
 
 pub returns-clause-read : goal.returns-clause-read
 returns-clause-read c =
