@@ -15,7 +15,7 @@
 set -eu
 top=$(CDPATH='' cd -- "$(dirname -- "$0")/.." && pwd)
 cd "$top"
-find crates -name out -prune -o -path crates/mm_tests -prune -o -path '*/src/*' -name '*.rt' \
+find crates -name out -prune -o -path crates/mm_tests -prune -o -path crates/mm_core_tests -prune -o -path '*/src/*' -name '*.rt' \
     ! -name tests.rt ! -path '*/tests/*' -print | sort | xargs awk '
     function complain(file, line, what, text) {
         sub(/^[ \t]+/, "", text)

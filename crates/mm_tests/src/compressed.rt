@@ -2,7 +2,7 @@
 
 use crate::Case;
 use crate::Part::{Text, Times};
-use crate::databases::{CAT, DEMO_COMPRESSED, DIST, FIRST_HEAD, HEAD, LIMIT};
+use mm_core_tests::databases::{CAT, DEMO_COMPRESSED, DIST, FIRST_HEAD, HEAD, LIMIT};
 
 /// Compressed proofs that are accepted.
 pub(crate) const ACCEPTED: [Case; 10] = [

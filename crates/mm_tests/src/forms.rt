@@ -2,13 +2,13 @@
 
 use crate::Asked;
 use crate::Part::Text;
-use crate::databases::{CAT, DEMO, DEMO_COMPRESSED, FIRST, HEAD};
-use crate::doublings::{
+use mm_check::Command::About;
+use mm_check::Question;
+use mm_core_tests::databases::{CAT, DEMO, DEMO_COMPRESSED, FIRST, HEAD};
+use mm_core_tests::doublings::{
     HUNDRED, HUNDRED_LINES, HUNDRED_TURNED, SIX_HUNDRED_AND_TWENTY_LINES, TWENTY_FOUR,
     TWENTY_FOUR_LINES,
 };
-use mm_check::Command::About;
-use mm_check::Question;
 use mm_verdict::Form;
 
 /// Small proofs: in them `weq` and `mp`, which are used twice, come before the labels that are used

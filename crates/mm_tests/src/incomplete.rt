@@ -3,7 +3,7 @@
 
 use crate::Case;
 use crate::Part::{Text, Times};
-use crate::databases::{FIRST_HEAD, HEAD, LIMIT};
+use mm_core_tests::databases::{FIRST_HEAD, HEAD, LIMIT};
 
 /// Incomplete proofs are listed, and faults elsewhere come first.
 pub(crate) const LISTED: [Case; 7] = [

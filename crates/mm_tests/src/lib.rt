@@ -1,5 +1,5 @@
-//! The tests of all crates but the program: the acceptance cases, as tests of `mm_check::run` over
-//! a writer in memory, and one path of each public call (`calls`).
+//! The tests of the crates above `mm_shorten` but the program: the acceptance cases, as tests of
+//! `mm_check::run` over a writer in memory, and one path of each public call (`calls`).
 //!
 //! An acceptance case is a small database with the reply that the rules of the language demand. It
 //! was written down from those rules and from the documents, and not taken from what the program
@@ -14,10 +14,6 @@ mod calls;
 mod compressed;
 #[cfg(test)]
 mod damaged;
-#[cfg(test)]
-mod databases;
-#[cfg(test)]
-mod doublings;
 #[cfg(test)]
 mod examples;
 #[cfg(test)]

@@ -2,9 +2,9 @@
 
 use crate::Case;
 use crate::Part::Text;
-use crate::databases::{FIRST, FIRST_HEAD};
 use mm_check::Command::{self, Lone};
 use mm_check::LoneQuestion::{Known, Try};
+use mm_core_tests::databases::{FIRST, FIRST_HEAD};
 
 /// Texts that are proofs of a theorem, whatever stands as its proof.
 pub(crate) const TRIED: [(Command<'static>, Case); 5] = [

@@ -3,7 +3,7 @@
 
 use crate::Case;
 use crate::Part::{Text, Times};
-use crate::databases::{CAT, FIRST, FIRST_HEAD};
+use mm_core_tests::databases::{CAT, FIRST, FIRST_HEAD};
 
 /// Files that are accepted, files of one name, and a file that is never reached.
 pub(crate) const WHOLE_FILES: [Case; 10] = [

@@ -3,7 +3,7 @@
 
 use crate::Case;
 use crate::Part::{Text, Times};
-use crate::databases::{DIST, HEAD, LIMIT};
+use mm_core_tests::databases::{DIST, HEAD, LIMIT};
 
 /// Faults of the tokens of a prefix, which are judged over all of them.
 pub(crate) const FAULTS_OF_TOKENS: [Case; 9] = [

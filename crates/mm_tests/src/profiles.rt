@@ -2,8 +2,8 @@
 
 use crate::Case;
 use crate::Part::{Text, Times};
-use crate::databases::{CAT, DEMO, DEMO_COMPRESSED, FIRST, FIRST_HEAD, HEAD, LIMIT};
-use crate::doublings::TWENTY_FOUR;
+use mm_core_tests::databases::{CAT, DEMO, DEMO_COMPRESSED, FIRST, FIRST_HEAD, HEAD, LIMIT};
+use mm_core_tests::doublings::TWENTY_FOUR;
 
 /// Databases that the strict profile accepts.
 pub(crate) const ACCEPTED: [Case; 8] = [

@@ -2,7 +2,7 @@
 
 use crate::Case;
 use crate::Part::{Text, Times};
-use crate::databases::{DEMO, DIST, HEAD, LIMIT, LONG};
+use mm_core_tests::databases::{DEMO, DIST, HEAD, LIMIT, LONG};
 
 /// Proofs after the head of the demonstration database that have one fault.
 pub(crate) const AFTER_HEAD: [Case; 10] = [

@@ -2,9 +2,9 @@
 
 use crate::Case;
 use crate::Part::{Text, Times};
-use crate::databases::{CAT, DEMO, DEMO_COMPRESSED, FIRST, HEAD, LIMIT};
 use mm_check::Command::{self, About};
 use mm_check::Question;
+use mm_core_tests::databases::{CAT, DEMO, DEMO_COMPRESSED, FIRST, HEAD, LIMIT};
 
 /// Theorems that rest on axioms alone, or on nothing.
 pub(crate) const AXIOMS: [(Command<'static>, Case); 8] = [

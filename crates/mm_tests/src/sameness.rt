@@ -2,12 +2,12 @@
 
 use crate::Asked;
 use crate::Part::Text;
-use crate::databases::{CAT, DEMO, DEMO_COMPRESSED, DIST, FIRST, HEAD, LIMIT};
-use crate::doublings::{
-    HUNDRED, HUNDRED_TURNED, NINETY_NINE, NINETY_NINE_TURNED, TWENTY_FOUR, TWENTY_FOUR_LINES,
-};
 use mm_check::Command::About;
 use mm_check::Question;
+use mm_core_tests::databases::{CAT, DEMO, DEMO_COMPRESSED, DIST, FIRST, HEAD, LIMIT};
+use mm_core_tests::doublings::{
+    HUNDRED, HUNDRED_TURNED, NINETY_NINE, NINETY_NINE_TURNED, TWENTY_FOUR, TWENTY_FOUR_LINES,
+};
 
 /// Texts of the same proof.
 pub(crate) const SAME: [Asked; 8] = [

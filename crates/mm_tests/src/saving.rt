@@ -2,10 +2,12 @@
 
 use crate::Asked;
 use crate::Part::Text;
-use crate::databases::{CAT, DEMO, DEMO_COMPRESSED, DEMO_SMALL, DIST, FIRST, FIRST_HEAD, HEAD};
-use crate::doublings::{TWENTY_FOUR, TWENTY_FOUR_LINES};
 use mm_check::Command::About;
 use mm_check::Question;
+use mm_core_tests::databases::{
+    CAT, DEMO, DEMO_COMPRESSED, DEMO_SMALL, DIST, FIRST, FIRST_HEAD, HEAD,
+};
+use mm_core_tests::doublings::{TWENTY_FOUR, TWENTY_FOUR_LINES};
 use mm_verdict::Form;
 
 /// Files with a proof written anew.

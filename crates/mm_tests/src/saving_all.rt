@@ -2,11 +2,11 @@
 
 use crate::Asked;
 use crate::Part::Text;
-use crate::databases::{
+use mm_check::Command::File;
+use mm_core_tests::databases::{
     CAT, DEMO, DEMO_COMPRESSED, DEMO_HEAD, DEMO_SMALL, DIST, FIRST, FIRST_HEAD, HEAD,
 };
-use crate::doublings::{TWENTY_FOUR, TWENTY_FOUR_LINES};
-use mm_check::Command::File;
+use mm_core_tests::doublings::{TWENTY_FOUR, TWENTY_FOUR_LINES};
 use mm_verdict::Form::{Normal, Packed, Small};
 
 /// Files with each complete proof written anew.

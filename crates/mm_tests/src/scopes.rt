@@ -2,7 +2,7 @@
 
 use crate::Case;
 use crate::Part::Text;
-use crate::databases::{DIST, FIRST, LIMIT};
+use mm_core_tests::databases::{DIST, FIRST, LIMIT};
 
 /// What is active in blocks and after them, and blocks that are not balanced.
 pub(crate) const BLOCKS: [Case; 11] = [

@@ -7,7 +7,6 @@ ghost use Rattle.mm_code.specs.Layout.{texts};
 ghost use Rattle.mm_text.specs.Files.{plain_file};
 ghost use Rattle.mm_check.specs.Reply.{AsksHanded};
 
-use crate::databases::{DEMO, HEAD};
 use crate::{
     Case, Part, compressed, damaged, faults, files, finding, incomplete, lone, names, one_file,
     orders, prefixes, profiles, proofs, questions, scopes, statements, users, uses, why,
@@ -15,6 +14,7 @@ use crate::{
 };
 use mm_base::{File, Seed, Statement};
 use mm_check::{Command, WholeQuestion, run};
+use mm_core_tests::databases::{DEMO, HEAD};
 use mm_rules::Status;
 use mm_step::Profile;
 use mm_text::{BYTE_LIMIT, Counted, Statements};

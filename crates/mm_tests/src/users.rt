@@ -2,9 +2,9 @@
 
 use crate::Case;
 use crate::Part::Text;
-use crate::databases::{FIRST, HEAD};
 use mm_check::Command::{self, About, Whole};
 use mm_check::{Question, WholeQuestion};
+use mm_core_tests::databases::{FIRST, HEAD};
 use mm_step::Profile;
 
 /// Theorems that use one another: `a` uses an axiom, `b` uses `a`, `u` is unproved, `c` uses `b` and

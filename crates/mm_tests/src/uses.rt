@@ -2,9 +2,9 @@
 
 use crate::Case;
 use crate::Part::Text;
-use crate::databases::{FIRST, HEAD};
 use mm_check::Command::{self, About};
 use mm_check::Question;
+use mm_core_tests::databases::{FIRST, HEAD};
 
 /// Terms, their equality and its axioms, and a rule with two essential hypotheses.
 const EQUALS: &[u8] = b"\

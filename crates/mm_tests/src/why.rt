@@ -2,9 +2,9 @@
 
 use crate::Case;
 use crate::Part::Text;
-use crate::databases::FIRST;
 use mm_check::Command::{self, Whole};
 use mm_check::WholeQuestion;
+use mm_core_tests::databases::FIRST;
 use mm_step::Profile::{Lenient, Strict};
 
 /// Databases with several faults, with one, and with none.

@@ -1,10 +1,10 @@
 //! One happy path of each public call, and writers that fail in the middle of a reply.
 
-use crate::calls::failing::failing_writer;
 use crate::tests::{CHECK, reply_to};
 use mm_axioms::{ChainFault, Report, axioms, chain, essential_axioms};
 use mm_base::{File, Seed};
 use mm_check::{Command, Question, RunFault, run};
+use mm_core_tests::failing::failing_writer;
 use mm_frame::{LabelId, MeaningRule};
 use mm_render::proof_listing;
 use mm_rules::{AskFault, AskRule, CheckFault, Refusal, Rule, Status};

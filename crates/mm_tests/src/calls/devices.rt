@@ -1,10 +1,10 @@
 //! Writers that fail at each byte of a longer reply: of a listing, and of a whole file.
 
-use crate::calls::failing::failing_writer;
-use crate::databases::DEMO;
 use crate::tests::{asks_handed, reply_to};
 use mm_base::{File, Seed};
 use mm_check::{Command, Question, RunFault, run};
+use mm_core_tests::databases::DEMO;
+use mm_core_tests::failing::failing_writer;
 use mm_verdict::Form;
 use std::alloc::Global;
 use std::test::Fail;

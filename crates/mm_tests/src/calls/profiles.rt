@@ -1,7 +1,7 @@
 //! `check` under both profiles, and questions of what either has accepted.
 
-use crate::databases::{DEMO, DEMO_COMPRESSED, HEAD};
 use mm_base::{File, Seed};
+use mm_core_tests::databases::{DEMO, DEMO_COMPRESSED, HEAD};
 use mm_laws::{between_profiles, saved_proof_is_strict};
 use mm_render::is_same_proof;
 use mm_rules::{AskFault, AskRule, CheckFault, Rule};

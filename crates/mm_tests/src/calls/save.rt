@@ -2,10 +2,10 @@
 
 ghost use Rattle.std.specs.Prelude.{◌≡◌, ◌≤◌, length};
 
-use crate::databases::FIRST;
 use crate::tests::reply_to;
 use mm_base::{File, Seed};
 use mm_check::{Command, Question};
+use mm_core_tests::databases::FIRST;
 use mm_laws::{
     all_saved_proofs_are_strict, one_all_saved, one_saved, packed_texts_tell,
     saving_again_changes_nothing, saving_all_again_changes_nothing, saving_all_changes_no_answer,

@@ -1,9 +1,0 @@
--- What is proved makes one tree.
-use Rattle.mm_tests.proofs.calls.proof.forms.judge_steps.Goals as goal
-
-pub returns : goal.returns
-returns c = record {
-  makes = λ index s moves proof numbered.
-      let p = (c.in_ok-_used.ensures.proved c.requires.whole index s moves proof numbered).0 in
-      (p.label, p.below, record { kept = p.kept; made = p.made });
-}
