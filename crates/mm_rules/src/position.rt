@@ -140,7 +140,7 @@ pub struct Place {
     /// The line, from 1.
     pub line: usize,
     /// The column, from 1: one more than the number of bytes since the line's beginning.
-    pub(crate) column: usize,
+    pub column: usize,
 }
 
 /// How many bytes stand at the end of a text, behind its last line feed.
@@ -162,19 +162,26 @@ fn column_of(files: &[File], file: usize, at: usize) -> usize
 }
 
 impl<'a> LineCount<'a> {
+    /// The place of a position in one of the files; its line is counted on where it can be.
+    pub fn place_in(&mut self, file: usize, at: usize) -> Place
+        ensures place { result ≡ place_at self.old file at }
+        ensures files { self.new ≡ self.old }
+    {
+        let column = column_of(self.files, file, at);
+        Place {
+            file,
+            line: self.line_of(file, at),
+            column,
+        }
+    }
+
     /// The place where a token of the files stands; its line is counted on where it can be.
     pub fn place_of(&mut self, token: Token) -> Place
         ensures place { result
             ≡ place_at self.old (plain_token token.entry).file (plain_token token.entry).at }
         ensures files { self.new ≡ self.old }
     {
-        let at = token.at as usize;
-        let column = column_of(self.files, token.file, at);
-        Place {
-            file: token.file,
-            line: self.line_of(token.file, at),
-            column,
-        }
+        self.place_in(token.file, token.at as usize)
     }
 }
 
