@@ -407,12 +407,14 @@ pub fn partial_listing(
     lines_of_steps(alloc, book, id, steps, expressed)
 }
 
-// The lines of the steps among so many first moves, which pass.
+// The lines of the steps among so many first moves, which pass, those with their expressions that
+// are listed so.
 fn lines_of_front(
     alloc: Global,
     table: &CallTable,
     codes: &[Code],
     passed: usize,
+    expressed: Expressed,
 ) -> Result<Vec<Line>, AllocError>
     requires site { IsSite table.now.site }
     requires spelled { All HasSpelling codes.now }
@@ -426,13 +428,9 @@ fn lines_of_front(
         Pass (IsWithin site.limit) (take index site.statements) (take passed moves)) }
     ensures { let site = table.now.site in IfOk result (λ lines.
         OfMoves site.statements site.number (code_moves table.now.ids codes.now)
-        (λ index s moves. AreLinesOf site.statements (take index site.statements)
-        (take passed moves) lines.items)) }
+        (λ index s moves. AreLinesWith site.statements (take index site.statements)
+        (take passed moves) (expresses expressed.entry) lines.items)) }
 {
-    let expressed = Expressed {
-        all: true,
-        flags: &[],
-    };
     let mut store = Flat::new(alloc);
     match lines_of(alloc, &mut store, table, &codes[..passed], expressed) {
         Ok(lines) => Ok(lines),
@@ -442,7 +440,8 @@ fn lines_of_front(
     }
 }
 
-// The lines of the steps among so many first moves that the codes say.
+// The lines of the steps among so many first moves that the codes say, those with their expressions
+// that are listed so.
 fn lines_of_first_codes(
     alloc: Global,
     book: &Book,
@@ -450,19 +449,19 @@ fn lines_of_first_codes(
     entries: &[LabelId],
     codes: &[Code],
     profile: Profile,
-    passed: usize,
+    front: (usize, Expressed),
 ) -> Result<Vec<Line>, AllocError>
     requires spelled { All HasSpelling codes.now }
     requires room { length codes.now < 2 ^ 32 }
-    requires within { passed ≤ length codes.now }
+    requires within { front.0 ≤ length codes.now }
     requires steps { AreSteps book.now.statements id.0 (moves_of entries.now codes.now) }
     requires pass { OfMoves book.now.statements id.0 (moves_of entries.now codes.now)
         (λ index s moves. Pass (IsWithin (limit_of profile)) (take index book.now.statements)
-        (take passed moves)) }
+        (take front.0 moves)) }
     ensures { IfOk result (λ lines.
         OfMoves book.now.statements id.0 (moves_of entries.now codes.now)
-        (λ index s moves. AreLinesOf book.now.statements (take index book.now.statements)
-        (take passed moves) lines.items)) }
+        (λ index s moves. AreLinesWith book.now.statements (take index book.now.statements)
+        (take front.entry.0 moves) (expresses front.entry.1) lines.items)) }
 {
     let site = Site::new(book, id, profile);
     let calls = calls_of(alloc, book, entries)?;
@@ -471,7 +470,7 @@ fn lines_of_first_codes(
         entries,
         calls: &calls,
     };
-    lines_of_front(alloc, &table, codes, passed)
+    lines_of_front(alloc, &table, codes, front.0, front.1)
 }
 
 /// The steps among so many first moves of the `$p` with this number, which pass, in order, as
@@ -496,6 +495,10 @@ pub fn lines_before(
         (λ index s moves. AreLinesOf book.now.statements (take index book.now.statements)
         (take passed moves) lines.items)) }
 {
+    let expressed = Expressed {
+        all: true,
+        flags: &[],
+    };
     lines_of_first_codes(
         alloc,
         book,
@@ -503,6 +506,43 @@ pub fn lines_before(
         &steps.entries,
         &steps.codes,
         steps.profile,
-        passed,
+        (passed, expressed),
+    )
+}
+
+/// What the steps among so many first moves of the `$p` with this number, which pass, are called, in
+/// order: the same lines, without their expressions.
+///
+/// # Errors
+///
+/// Where a growth was refused.
+pub fn names_before(
+    alloc: Global,
+    book: &Book,
+    id: LabelId,
+    steps: &Steps,
+    passed: usize,
+) -> Result<Vec<Line>, AllocError>
+    requires steps { AreSteps book.now.statements id.0 steps.now.moves }
+    requires within { passed ≤ length steps.now.moves }
+    requires pass { OfMoves book.now.statements id.0 steps.now.moves
+        (λ index s moves. Pass (IsWithin (limit_of steps.now.profile))
+        (take index book.now.statements) (take passed moves)) }
+    ensures listed { IfOk result (λ lines. OfMoves book.now.statements id.0 steps.now.moves
+        (λ index s moves. AreLinesWith book.now.statements (take index book.now.statements)
+        (take passed moves) (λ index. false) lines.items)) }
+{
+    let expressed = Expressed {
+        all: false,
+        flags: &[],
+    };
+    lines_of_first_codes(
+        alloc,
+        book,
+        id,
+        &steps.entries,
+        &steps.codes,
+        steps.profile,
+        (passed, expressed),
     )
 }

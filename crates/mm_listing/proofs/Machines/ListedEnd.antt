@@ -1,5 +1,5 @@
 -- What is listed at the end of moves that have run.
-use Rattle.std.proofs.Common.{◌≡◌, ℕ, List, [], ◌∷◌, take, subst, sym, Bool, true}
+use Rattle.std.proofs.Common.{◌≡◌, ℕ, List, [], ◌∷◌, take, subst, sym, Bool}
 use Rattle.mm_base.proofs.Lists.{zip_take}
 use Rattle.mm_frame.specs.Sentence.{Sentence}
 use Rattle.mm_step.specs.declared.fault.ProofRule.{ProofRule}
@@ -14,8 +14,7 @@ use Rattle.mm_frame.specs.Numbers.{IsNumbered}
 use Rattle.mm_frame.specs.FrameIndex.{AreItsSymbols}
 use Rattle.mm_step.proofs.ByNumbers.OneIndex.{one_index}
 use Rattle.mm_listing.specs.declared.lines.Line.{Line}
-use Rattle.mm_listing.specs.Listing.{AreLinesOf}
-use Rattle.mm_listing.proofs.Machines.ToldLines.{every_line}
+use Rattle.mm_listing.specs.Listing.{AreLinesWith}
 use Rattle.mm_listing.specs.Mirror.CodeLines.{AreLinesAt, BreaksAt, ListsProof}
 use Rattle.mm_proof.proofs.ProofVerdicts.JudgedMoves.{proved_end}
 use Rattle.mm_proof.proofs.ProofVerdicts.PassedMoves.{no_fault_within}
@@ -63,14 +62,13 @@ module _ (site : ProofSite) (xs : List (Move ℕ)) (n : ℕ) (own : IsSite site)
       m.fault
 
   -- their lines are those of their names
-  pub front_listed : (lines : List Line)
-      → AreLinesAt site.statements (λ step. true) site.index (take n xs) lines
+  pub front_listed : (expressed : ℕ → Bool) (lines : List Line)
+      → AreLinesAt site.statements expressed site.index (take n xs) lines
       → OfMoves site.statements site.number xs (λ index s moves.
-      AreLinesOf site.statements (take index site.statements) (take n moves) lines)
-  front_listed lines listed index s moves proof numbered =
+      AreLinesWith site.statements (take index site.statements) (take n moves) expressed lines)
+  front_listed expressed lines listed index s moves proof numbered =
       let st = site.statements in
       let here : site.index ≡ index =
       one_index st site.number site.index index own.s s own.proof.numbered proof.numbered in
-      subst (λ i. AreLinesOf st (take i st) (take n moves) lines) here
-      (every_line st _ _ lines
-      (listed (take n moves) (zip_take (IsNumberedMove st) xs moves n numbered)))
+      subst (λ i. AreLinesWith st (take i st) (take n moves) expressed lines) here
+      (listed (take n moves) (zip_take (IsNumberedMove st) xs moves n numbered))

@@ -5,6 +5,7 @@ use Rattle.mm_step.specs.Plain.{ids_in}
 use Rattle.mm_step.specs.Steps.{AreNumberedMoves}
 use Rattle.mm_proof.specs.Mirror.CodeSteps.{code_move}
 use Rattle.mm_proof.proofs.ProofVerdicts.JudgedMoves.{held_moves, seen_moves, seen_limit}
+use Rattle.mm_listing.proofs.Machines.ToldLines.{every_line}
 use Rattle.mm_listing.proofs.lines.lines_before.Goals as goal
 
 pub lines_of_first_codes-requires-clause-within : goal.lines_of_first_codes-requires-clause-within
@@ -32,7 +33,8 @@ returns c =
     (seen_moves c.steps.view_is) in
     record {
       listed = IfOk-weaker c.lines_of_first_codes.result _ _
-          (λ lines h index s moves proof numbered. h index s moves proof
-          (subst (λ l. AreNumberedMoves c.args.book.now.statements l moves) held numbered))
+          (λ lines h index s moves proof numbered.
+          every_line c.args.book.now.statements _ _ lines.items (h index s moves proof
+          (subst (λ l. AreNumberedMoves c.args.book.now.statements l moves) held numbered)))
           c.lines_of_first_codes.ensures;
     }

@@ -1,7 +1,7 @@
-use Rattle.std.proofs.Common.{Err, ap, subst, sym, true}
+use Rattle.std.proofs.Common.{Err, ap, subst, sym}
 use Rattle.std.proofs.lemmas.List.{take-map}
 use Rattle.mm_proof.specs.Mirror.CodeSteps.{code_move, code_moves}
-use Rattle.mm_listing.specs.Mirror.CodeLines.{AreLinesAt, BreaksAt}
+use Rattle.mm_listing.specs.Mirror.CodeLines.{AreLinesAt, BreaksAt, expresses}
 use Rattle.mm_listing.proofs.Machines.ListedEnd.{no_front_fault, front_listed}
 use Rattle.mm_listing.proofs.Machines.ProofHalts.{front_made, front_named}
 use Rattle.mm_listing.proofs.lines.lines_of_front.Goals as goal
@@ -21,8 +21,10 @@ returns-in-Ok c =
     let site = c.args.table.now.site in
     let ids = c.args.table.now.ids in
     let n = c.args.passed in
-    front_listed site (code_moves ids c.args.codes.now) n c.requires.site c.in-Ok.lines.items
-    (subst (λ l. AreLinesAt site.statements (λ step. true) site.index l c.in-Ok.lines.items)
+    front_listed site (code_moves ids c.args.codes.now) n c.requires.site
+    (expresses c.args.expressed) c.in-Ok.lines.items
+    (subst
+    (λ l. AreLinesAt site.statements (expresses c.args.expressed) site.index l c.in-Ok.lines.items)
     (sym (take-map (code_move ids) n c.args.codes.now)) c.in-Ok.ensures.lines)
 
 pub unreachable-requires : goal.unreachable-requires
