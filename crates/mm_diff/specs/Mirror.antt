@@ -3,3 +3,4 @@
 -- specs/.
 pub mod Names
 pub mod Differences
+pub mod Outcomes

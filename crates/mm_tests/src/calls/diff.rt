@@ -49,17 +49,23 @@ fn tells_versions(rt: HostRuntime) -> Result<(), Fail> {
             text: b"differ 0 gone 0 added 0 changed\n",
             status: Status::Done,
         },
-        // Neither a new label of a hypothesis nor the order of a pair counts, nor a new proof.
+        // Neither a new label of a hypothesis nor the order of a pair counts, nor a new proof's text.
         Version {
             new: b"$c |- wff -> $. $v q p $. wp $f wff p $. vq $f wff q $.
 ${ mi $e |- p $. ma $e |- p -> q $. mp $a |- q $. $}
 wi $a wff p -> q $.
 ${ $d q p $. ax1 $a |- p -> q $. $}
 ax2 $a |- p -> p $.
-th1 $p |- p -> p $= ? $.
+th1 $p |- p -> p $= ( ax2 ) AB $.
 ",
             text: b"differ 0 gone 0 added 0 changed\n",
             status: Status::Done,
+        },
+        // A version that isn't finished isn't compared.
+        Version {
+            new: b"$c -> wff |- $. $v p q $. wp $f wff p $. th1 $p |- p -> p $= ? $.\n",
+            text: b"incomplete 1\nth1\n",
+            status: Status::Incomplete,
         },
         // The order of `$f` is that of what a step asks for: so wi is another, and so are all.
         Version {

@@ -1,9 +1,19 @@
--- The reply is that over the answer of `check_with`.
+-- The reply beside the old database, whose labels are few.
+use Rattle.std.proofs.Common.{map}
 use Rattle.std.proofs.lemmas.Result.{IfOk-weaker}
+use Rattle.mm_text.specs.Files.{plain_file}
+use Rattle.mm_diff.proofs.DiffReplies.{few_told, told_of_both}
 use Rattle.mm_diff.proofs.reply.diff_reply.Goals as goal
 
-pub returns : goal.returns
-returns c =
-    IfOk-weaker c.reply_to_both-reply.result _ _
-    (λ reply told. told c.check_with-answer.ensures.verdict c.check_with-answer.ensures.uses)
-    c.reply_to_both-reply.ensures
+pub reply_beside-reply-requires : goal.reply_beside-reply-requires
+reply_beside-reply-requires c =
+    few_told c.args.profile (map plain_file c.args.old.now) c.in-Accepted.book.statements
+    (rw c.in-Accepted.is at c.in_ok-book.ensures)
+
+pub returns-in-Accepted : goal.returns-in-Accepted
+returns-in-Accepted c =
+    IfOk-weaker c.reply_beside-reply.result _ _
+    (λ reply beside. told_of_both c.args.profile (map plain_file c.args.old.now)
+    (map plain_file c.args.new.now) c.in-Accepted.book.statements _ _
+    (rw c.in-Accepted.is at c.in_ok-book.ensures) beside)
+    c.reply_beside-reply.ensures

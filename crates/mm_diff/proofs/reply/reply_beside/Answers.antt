@@ -1,10 +1,10 @@
--- The reply is that over the answer of `check_with`.
-use Rattle.std.proofs.lemmas.Result.{IfOk-weaker}
+-- What changed to the new database, whose labels are few.
+use Rattle.std.proofs.Common.{map}
+use Rattle.mm_text.specs.Files.{plain_file}
+use Rattle.mm_diff.proofs.DiffReplies.{few_told}
 use Rattle.mm_diff.proofs.reply.reply_beside.Goals as goal
 
-pub returns : goal.returns
-returns c =
-    IfOk-weaker c.reply_to_new-reply.result _ _
-    (λ reply told. told c.args.profile c.check_with-answer.ensures.verdict
-    c.check_with-answer.ensures.uses)
-    c.reply_to_new-reply.ensures
+pub changes_reply-reply-requires-clause-new : goal.changes_reply-reply-requires-clause-new
+changes_reply-reply-requires-clause-new c =
+    few_told c.args.profile (map plain_file c.args.new.now) c.in-Accepted.book.statements
+    (rw c.in-Accepted.is at c.in_ok-book.ensures)

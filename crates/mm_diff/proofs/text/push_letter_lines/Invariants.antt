@@ -1,6 +1,7 @@
 -- The lines so far are those of the numbers so far.
 use Rattle.std.proofs.Common.{◌≡◌, ◌++◌, map, take}
 use Rattle.mm_rules.specs.Answer.{labels_at}
+use Rattle.mm_rules.specs.Conclusion.{labels_in}
 use Rattle.mm_diff.specs.Diff.{letter_lines}
 use Rattle.mm_diff.proofs.text.push_letter_lines.Given as goal
 
@@ -9,4 +10,4 @@ invariant-loop-number l =
     l.out.items
     ≡ l.fn.out.items
     ++ letter_lines l.letter
-    (labels_at l.checked.labels (map (λ id. id.0) (take l.number-index l.numbers)))
+    (labels_at (labels_in l.book.statements) (map (λ id. id.0) (take l.number-index l.numbers)))
