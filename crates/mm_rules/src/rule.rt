@@ -41,8 +41,8 @@ impl AskRule {
     }
 }
 
-/// Every rule that a reply may name. `docs/RULES.md` says of each where it is broken, with an
-/// example.
+/// Every rule that a reply may name, but A4, which is told by `axioms --to` alone (`ChainFault` of
+/// mm_axioms). `docs/RULES.md` says of each where it is broken, with an example.
 #[derive(Clone, Copy, PartialEq, Eq, Debug)]
 pub enum Rule {
     /// A rule of the files as a whole.
