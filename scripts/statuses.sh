@@ -256,7 +256,7 @@ cat >whys.txt <<'END'
 faults.mm:3:15: P14: the proof proves something else than is stated, in the proof of p, at step 2
   it states
     b
-  but step 1 gives
+  but step 1, one at 3:11, gives
     a
   they differ at symbol 1: a where b is asked
 faults.mm:5:11: P2: no earlier statement has the label, in the proof of r
@@ -283,10 +283,10 @@ ends 4 'load F2\n' '' why first.mm first.mm
 printf 'tze tze tpl\n' >th.txt
 ends 0 'proof\n' '' try th th.txt first.mm
 printf 'tze ?\n' >th.txt
-ends 3 'text A3 0\n  step 1 gives\n    term 0\n  th states\n    term ( 0 + 0 )\n' '' \
+ends 3 'text A3 0\n  step 1, tze at 1:1, gives\n    term 0\n  th states\n    term ( 0 + 0 )\n' '' \
     try th th.txt first.mm
 printf 'tze tpl\n' >th.txt
-ends 1 'text P8 2\nth.txt:1:5: P8: the stack has fewer entries than the step takes, at step 2\n  step: tpl\n  entries it takes: 2, entries there are: 1\n  tt states\n    term t\n  tr states\n    term r\n  step 1 gives\n    term 0\n' '' \
+ends 1 'text P8 2\nth.txt:1:5: P8: the stack has fewer entries than the step takes, at step 2\n  step: tpl\n  entries it takes: 2, entries there are: 1\n  tt states\n    term t\n  tr states\n    term r\n  step 1, tze at 1:1, gives\n    term 0\n' '' \
     try th th.txt first.mm
 ends 1 'ask A1 none\n' '' try none th.txt first.mm
 ends 0 'th tze tpl\n' '' axioms --all first.mm

@@ -3,8 +3,6 @@ use Rattle.std.proofs.Common.{◌≡◌, ℕ, ◌+◌, List, [], ◌∷◌, ◌+
 use Rattle.std.proofs.Common.{Option, Some, None, inl, inr, refl, sym, ap, subst, ◌∙◌, append-nil}
 use Rattle.std.proofs.Common.{◌≤◌, arith}
 use Rattle.std.specs.List.{AllZip}
-use Rattle.std.proofs.lemmas.List.{take_at, length-append}
-use Rattle.std.proofs.lemmas.Slice.Zip.{AllZip-long}
 use Rattle.mm_base.specs.Statement.{plain_statement}
 use Rattle.mm_text.specs.Files.{PlainFile}
 use Rattle.mm_frame.specs.Sentence.{Sentence, sentence_of}
@@ -27,6 +25,7 @@ use Rattle.mm_step.specs.Substitution.{Expression}
 use Rattle.mm_proof.specs.Tokens.{is_incomplete, SayMoves}
 use Rattle.mm_proof.specs.Verified.{OfMoves}
 use Rattle.mm_proof.proofs.ProofVerdicts.PassedMoves.{prove_at_end}
+use Rattle.mm_facts.proofs.StepPlaces.{first_are}
 use Rattle.mm_check.specs.Alone.{AreStepsBefore}
 use Rattle.mm_facts.specs.Explained.{judged_tokens}
 use Rattle.mm_facts.specs.Explained.{IsTokensFault}
@@ -178,46 +177,6 @@ module _ (st : List Sentence) (index : ℕ) (s : Sentence) (tokens : List (List 
       }
 
 -- ---- of the `$p` with a number
-
--- the moves before the place are so many first ones
-pub first_are : (limit : ℕ) (st before : List Sentence) (s : Sentence) (b : Bool)
-    (moves : List (Move (List ℕ))) (halt : Halt) (h : HaltsProof limit st before s b moves halt)
-    → take halt.passed moves ≡ h.there.earlier
-first_are limit st _ s b moves halt h =
-    ap (λ (n : ℕ). take n moves) h.count
-    ∙ ap (λ (ms : List (Move (List ℕ))). take (length h.there.earlier) ms) h.there.parts
-    ∙ take_at h.there.earlier h.there.left (length h.there.earlier) refl
-
--- they pass
-pub first_pass : (st : List Sentence) (id : ℕ) (steps : ReadSteps) (halt : Halt)
-    → OfMoves st id steps.moves (λ index s moves.
-    HaltsProof (limit_of steps.profile) st (take index st) s steps.prefix moves halt)
-    → OfMoves st id steps.moves (λ index s moves.
-    Pass (IsWithin (limit_of steps.profile)) (take index st) (take halt.passed moves))
-first_pass st id steps halt halted index s moves proof numbered =
-    let Fits : List (List ℕ) → Type 0 = IsWithin (limit_of steps.profile) in
-    let h = halted index s moves proof numbered in
-    let same = first_are (limit_of steps.profile) st (take index st) s steps.prefix moves halt h in
-    subst (λ (ms : List (Move (List ℕ))). Pass Fits (take index st) ms) (sym same)
-    (h.there.stack, h.there.kept, h.there.passed)
-
--- there are as many
-pub first_within : (st : List Sentence) (id : ℕ) (steps : ReadSteps) (halt : Halt)
-    → AreSteps st id steps.moves
-    → OfMoves st id steps.moves (λ index s moves.
-    HaltsProof (limit_of steps.profile) st (take index st) s steps.prefix moves halt)
-    → halt.passed ≤ length steps.moves
-first_within st id steps halt usable halted =
-    let u = usable in
-    let h = halted u.index u.s u.moves u.proof u.numbered in
-    let long = AllZip-long (IsNumberedMove st) steps.moves u.moves u.numbered in
-    omega (
-      arith,
-      h.count,
-      long,
-      ap length h.there.parts,
-      length-append h.there.earlier h.there.left,
-    )
 
 module _ (st : List Sentence) (id : ℕ) (tokens : List (List ℕ)) (steps : ReadSteps) (halt : Halt)
     (said : OfProof st id (λ index s. SaySteps st index s (judged_tokens tokens) steps.moves))

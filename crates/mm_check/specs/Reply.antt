@@ -64,6 +64,8 @@ use Rattle.mm_verdict.specs.Faults.{HaveFaults, refusal_in}
 use Rattle.mm_facts.specs.Why.{IsFaultPlace}
 use Rattle.mm_explain.specs.Why.{TellsFaults, head_text}
 use Rattle.mm_rules.specs.Places.{name_of}
+use Rattle.mm_base.specs.Token.{PlainToken}
+use Rattle.mm_code.specs.Words.{texts_of}
 use Rattle.mm_verdict.specs.Reply.{IsAskReply, line_with, lines_of, refusal_status, refusals_text, status_of, text_of}
 use Rattle.mm_explain.specs.Reply.{IsExplained, IsTryReply}
 use Rattle.mm_axioms.specs.Reply.{lines_text}
@@ -294,7 +296,7 @@ pub record IsKnownFault (files : List PlainFile) (before : List PlainStatement) 
   pub shown : AreStepsBefore (sentences before) (sentence_of s) (judged_tokens (proof_of s)) step
       lines
   pub details : List Detail
-  pub explained : AreDetails Lenient (sentences before) (sentence_of s) (proof_of s) rule step
+  pub explained : AreDetails files Lenient (sentences before) (sentence_of s) s.proof rule step
       details
   pub at : ℕ
   pub place : IsFaultPlace Lenient (sentences before) s rule step at
@@ -306,14 +308,14 @@ pub record IsKnownFault (files : List PlainFile) (before : List PlainStatement) 
 
 -- The proof is incomplete, and its known prefix breaks no rule: the lines of the prefix's steps,
 -- and what it leaves on the stack.
-pub record IsCheckedPrefix (before : List Sentence) (s : Sentence) (tokens : List (List ℕ))
-    (text : List ℕ) (status : ℕ) : Type 0 where
-  pub incomplete : is_incomplete tokens ≡ true
-  pub allowed : IsPrefixAllowedUnder Lenient before s tokens
+pub record IsCheckedPrefix (files : List PlainFile) (before : List Sentence) (s : Sentence)
+    (tokens : List PlainToken) (text : List ℕ) (status : ℕ) : Type 0 where
+  pub incomplete : is_incomplete (texts_of tokens) ≡ true
+  pub allowed : IsPrefixAllowedUnder Lenient before s (texts_of tokens)
   pub lines : List ℕ
-  pub shown : IsListingText before s (checked_prefix tokens) lines
+  pub shown : IsListingText before s (checked_prefix (texts_of tokens)) lines
   pub details : List Detail
-  pub left : AreLeftOver Lenient before s tokens details
+  pub left : AreLeftOver files Lenient before s tokens details
   pub said : IsExplained lines details text
   pub ends : status ≡ 3
 
@@ -324,7 +326,7 @@ IsKnownReply files before s text status =
     ((is_incomplete (proof_of s) ≡ false)
     × IsProvedUnder Lenient (sentences before) (sentence_of s) (proof_of s)
     × IsListingText (sentences before) (sentence_of s) (proof_of s) text × (status ≡ 0))
-    ⊎ (IsCheckedPrefix (sentences before) (sentence_of s) (proof_of s) text status
+    ⊎ (IsCheckedPrefix files (sentences before) (sentence_of s) s.proof text status
     ⊎ IsKnownFault files before s text status)
 
 -- the answer about the theorem after those before it

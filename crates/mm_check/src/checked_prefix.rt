@@ -5,6 +5,7 @@ ghost use Rattle.std.specs.List.{sum_by};
 ghost use Rattle.mm_base.specs.MostBytes.{most_bytes};
 ghost use Rattle.mm_text.specs.Files.{plain_file};
 ghost use Rattle.mm_base.specs.Statement.{plain_statement};
+ghost use Rattle.mm_base.specs.Token.{plain_token};
 ghost use Rattle.mm_frame.specs.Sentence.{Sentence};
 ghost use Rattle.mm_step.specs.declared.profile.Profile.TheVariants.{Lenient};
 ghost use Rattle.mm_proof.specs.CheckedPrefix.{checked_prefix};
@@ -46,6 +47,7 @@ fn fault_reply(
 ) -> Result<Reply, AllocError>
     requires reached { (label : List ℕ) × HasReached (map plain_file files.now) label reached.now }
     requires tokens { token_texts tokens.now ≡ proof_of (plain_statement reached.now.statement) }
+    requires placed { map plain_token tokens.now ≡ (plain_statement reached.now.statement).proof }
     requires room { sum_by length (token_texts tokens.now) ≤ most_bytes }
     requires fault { OfProof reached.now.book.statements reached.now.id.0 (λ index s.
         IsTokensFault Lenient (take index reached.now.book.statements) s (token_texts tokens.now)
@@ -69,7 +71,7 @@ fn fault_reply(
     );
     let book = &reached.book;
     let profile = Profile::Lenient;
-    let cause = cause_of(alloc, profile, book, reached.id, tokens, fault)?;
+    let cause = cause_of(alloc, files, profile, book, reached.id, tokens, fault)?;
     let mut text = lines;
     push_refusal(&mut text, files, &refusal)?;
     let at = fault_place(&reached.statement, &cause);
@@ -85,6 +87,7 @@ fn fault_reply(
 /// it leaves on the stack.
 fn prefix_reply(
     alloc: Global,
+    files: &[File],
     book: &Book,
     id: LabelId,
     tokens: &[Token],
@@ -99,11 +102,11 @@ fn prefix_reply(
         IsListingText (take index book.now.statements) s (checked_prefix (token_texts tokens.now))
         lines.items) }
     ensures { IfOk result (λ reply. OfProof book.now.statements id.0 (λ index s.
-        IsCheckedPrefix (take index book.now.statements) s (token_texts tokens.now) reply.text.items
-        (number_of reply.status))) }
+        IsCheckedPrefix (map plain_file files.now) (take index book.now.statements) s
+        (map plain_token tokens.now) reply.text.items (number_of reply.status))) }
 {
     let mut text = lines;
-    push_left_over(&mut text, alloc, Profile::Lenient, book, id, tokens)?;
+    push_left_over(&mut text, alloc, files, Profile::Lenient, book, id, tokens)?;
     Ok(Reply {
         text,
         status: Status::Incomplete,
@@ -120,6 +123,7 @@ fn steps_reply(
 ) -> Result<Reply, AllocError>
     requires reached { (label : List ℕ) × HasReached (map plain_file files.now) label reached.now }
     requires tokens { token_texts tokens.now ≡ proof_of (plain_statement reached.now.statement) }
+    requires placed { map plain_token tokens.now ≡ (plain_statement reached.now.statement).proof }
     requires room { sum_by length (token_texts tokens.now) ≤ most_bytes }
     requires said { OfProof reached.now.book.statements reached.now.id.0 (λ index s.
         SaySteps reached.now.book.statements index s (judged_tokens (token_texts tokens.now))
@@ -141,7 +145,7 @@ fn steps_reply(
             fault_reply(alloc, files, reached, tokens, lines, fault)
         }
         None if steps.is_prefix() => {
-            prefix_reply(alloc, &reached.book, reached.id, tokens, lines)
+            prefix_reply(alloc, files, &reached.book, reached.id, tokens, lines)
         }
         None => Ok(Reply {
             text: lines,

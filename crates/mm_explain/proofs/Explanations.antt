@@ -11,6 +11,7 @@ use Rattle.std.proofs.lemmas.List.Elements.{filter-append}
 use Rattle.std.proofs.lemmas.Grind.{flat_map-append}
 use Rattle.mm_base.specs.declared.statement.Kind.TheVariants.{Provable}
 use Rattle.mm_base.specs.declared.file.File.{File}
+use Rattle.mm_base.specs.Token.{PlainToken}
 use Rattle.mm_base.specs.Statement.{PlainStatement, HasForm, is_provable}
 use Rattle.mm_text.specs.Files.{PlainFile, plain_file}
 use Rattle.mm_base.specs.MostBytes.{most_bytes}
@@ -136,17 +137,17 @@ tokens_fault profile before s rule step (inr (part, fault)) =
     inr (incomplete_there (is_provable s.kind) (is_incomplete (proof_of s)) part, fault)
 
 -- facts about a fault are facts about the same one
-facts_of : (profile : Profile) (s : Sentence) {before others : List Sentence}
-    {tokens texts : List (List ℕ)} {rule broken : ProofRule} {step number : ℕ} → tokens ≡ texts
+facts_of : (files : List PlainFile) (profile : Profile) (s : Sentence) {before others : List Sentence}
+    {tokens placed : List PlainToken} {rule broken : ProofRule} {step number : ℕ} → tokens ≡ placed
     → rule ≡ broken → step ≡ number → before ≡ others → (details : List Detail)
-    → AreDetails profile before s tokens rule step details
-    → AreDetails profile others s texts broken number details
-facts_of profile s {before} {others} {tokens} {texts} {rule} {broken} {step} {number} e f g h
+    → AreDetails files profile before s tokens rule step details
+    → AreDetails files profile others s placed broken number details
+facts_of files profile s {before} {others} {tokens} {placed} {rule} {broken} {step} {number} e f g h
     details facts =
-    subst (λ ss. AreDetails profile ss s texts broken number details) h
-    (subst (λ n. AreDetails profile before s texts broken n details) g
-    (subst (λ r. AreDetails profile before s texts r step details) f
-    (subst (λ ts. AreDetails profile before s ts rule step details) e facts)))
+    subst (λ ss. AreDetails files profile ss s placed broken number details) h
+    (subst (λ n. AreDetails files profile before s placed broken n details) g
+    (subst (λ r. AreDetails files profile before s placed r step details) f
+    (subst (λ ts. AreDetails files profile before s ts rule step details) e facts)))
 
 -- so is its place
 place_of_same : (profile : Profile) (s : PlainStatement) {before others : List Sentence}
@@ -230,18 +231,18 @@ module _ {profile : Profile} {files : List PlainFile} {told : List Sentence} {s 
           r.refused.fault)
 
       pub explained_there : (tokens : List (List ℕ)) → tokens ≡ proof_of s
-          → (rule : ProofRule) (step : ℕ) → rules.Proof rule ≡ refusal.rule → step ≡ refusal.step
+          → (placed : List PlainToken) → placed ≡ s.proof → (rule : ProofRule) (step : ℕ) → rules.Proof rule ≡ refusal.rule → step ≡ refusal.step
           → (place : ℕ)
           → IsFaultPlace profile (take (length (sentences r.before)) told) s rule step place
           → (details : List Detail)
-          → AreDetails profile (take (length (sentences r.before)) told) (sentence_of s) tokens rule
-          step details
+          → AreDetails files profile (take (length (sentences r.before)) told) (sentence_of s) placed
+          rule step details
           → (places : List Detail) → AreHypothesisPlaces files r.before s rule step places
           → (label : Option (List ℕ))
           → IsUnknownIn (take (length (sentences r.before)) told) tokens rule label
           → IsExplainedBut profile files told s refusal label
           (head_text files place refusal ++ details_text (details ++ places))
-      explained_there tokens same rule step one at place stands details facts places stand label
+      explained_there tokens same placed own rule step one at place stands details facts places stand label
           unknown =
           let told_rule : rules.Proof rule ≡ rules.Proof r.refused.rule =
           one ∙ ap (λ (x : PlainRefusal). x.rule) r.refused.refused in
@@ -260,7 +261,7 @@ module _ {profile : Profile} {files : List PlainFile} {told : List Sentence} {s 
               details = details;
               at = place;
               place = place_of_same profile s same_rule told_step earlier place stands;
-              facts = facts_of profile (sentence_of s) same same_rule told_step earlier details
+              facts = facts_of files profile (sentence_of s) own same_rule told_step earlier details
                   facts;
               places = places;
               stand = subst

@@ -2,6 +2,7 @@
 use Rattle.std.specs.Prelude.{◌≡◌, ℕ, List, [], ◌∷◌, ◌++◌}
 use Rattle.std.specs.Prelude.{true, false, None}
 use Rattle.std.specs.Prelude.{◌⊎◌, codes}
+use Rattle.mm_base.specs.Token.{tokens_from}
 use Rattle.mm_text.specs.Files.{PlainFile}
 use Rattle.mm_code.specs.Words.{tokens_in}
 use Rattle.mm_frame.specs.Sentence.{Sentence}
@@ -36,20 +37,21 @@ pub record IsTriedFault (proof : PlainFile) (before : List Sentence) (s : Senten
   pub at : ℕ
   pub place : IsTextPlace Lenient before s proof.bytes rule step at
   pub details : List Detail
-  pub explained : AreDetails Lenient before s (tokens_in proof.bytes) rule step details
+  pub explained : AreDetails (proof ∷ []) Lenient before s (tokens_from 0 0 proof.bytes) rule step
+      details
   pub said : IsExplained
       (line ++ head_at (proof ∷ []) 0 at (rules.Proof rule) None step) details text
 
--- They are incomplete, and their known prefix breaks no rule: the line of that, and what the prefix
--- leaves on the stack.
-pub record IsTriedPrefix (before : List Sentence) (s : Sentence) (tokens : List (List ℕ))
+-- Its tokens are incomplete, and their known prefix breaks no rule: the line of that, and what the
+-- prefix leaves on the stack.
+pub record IsTriedPrefix (proof : PlainFile) (before : List Sentence) (s : Sentence)
     (text : List ℕ) (status : ℕ) : Type 0 where
-  pub incomplete : is_incomplete tokens ≡ true
-  pub allowed : IsPrefixAllowedUnder Lenient before s tokens
+  pub incomplete : is_incomplete (tokens_in proof.bytes) ≡ true
+  pub allowed : IsPrefixAllowedUnder Lenient before s (tokens_in proof.bytes)
   pub line : List ℕ
   pub told : IsAskReply (ask.Text (rules.Ask A3) 0) [] line status
   pub details : List Detail
-  pub left : AreLeftOver Lenient before s tokens details
+  pub left : AreLeftOver (proof ∷ []) Lenient before s (tokens_from 0 0 proof.bytes) details
   pub said : IsExplained line details text
 
 -- the reply what the tokens of the text in a file are as a proof of the `$p`
@@ -59,7 +61,7 @@ IsTokensReply proof before s text status =
     ((is_incomplete (tokens_in proof.bytes) ≡ false)
     × IsProvedUnder Lenient before s (tokens_in proof.bytes)
     × (text ≡ line_with (codes "proof") []) × (status ≡ 0))
-    ⊎ (IsTriedPrefix before s (tokens_in proof.bytes) text status
+    ⊎ (IsTriedPrefix proof before s text status
     ⊎ IsTriedFault proof before s text status)
 
 -- the reply whether the text in a file is a proof of the `$p`

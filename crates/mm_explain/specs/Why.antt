@@ -77,7 +77,7 @@ pub record IsExplanation (profile : Profile) (files : List PlainFile) (refusal :
   pub at : ℕ
   pub place : IsFaultPlace profile (sentences before) s refused.rule refused.step at
   pub details : List Detail
-  pub facts : AreDetails profile (sentences before) (sentence_of s) (proof_of s) refused.rule
+  pub facts : AreDetails files profile (sentences before) (sentence_of s) s.proof refused.rule
       refused.step details
   pub places : List Detail
   pub stand : AreHypothesisPlaces files before s refused.rule refused.step places

@@ -88,19 +88,30 @@ fn prefix_reply(
     alloc: Global,
     book: &Book,
     id: LabelId,
+    proof: &File,
     tokens: &[Token],
 ) -> Result<Reply, AllocError>
     requires proof { (index : ℕ) × (s : Sentence) × IsProofNumber book.now.statements id.0 index s }
+    requires tokens { token_texts tokens.now ≡ tokens_in proof.now.bytes.now }
+    requires places { map plain_token tokens.now ≡ tokens_from 0 0 proof.now.bytes.now }
     requires room { sum_by length (token_texts tokens.now) ≤ most_bytes }
     requires tried { OfProof book.now.statements id.0 (λ index s.
         AreTried (take index book.now.statements) s (token_texts tokens.now) Proved.Incomplete) }
     ensures { IfOk result (λ reply. OfProof book.now.statements id.0 (λ index s.
-        IsTriedPrefix (take index book.now.statements) s (token_texts tokens.now) reply.text.items
+        IsTriedPrefix (plain_file proof.now) (take index book.now.statements) s reply.text.items
         (number_of reply.status))) }
 {
     let rule = Rule::Ask(AskRule::A3);
     let mut text = refused_text(alloc, rule, 0)?;
-    push_left_over(&mut text, alloc, Profile::Lenient, book, id, tokens)?;
+    push_left_over(
+        &mut text,
+        alloc,
+        &[*proof],
+        Profile::Lenient,
+        book,
+        id,
+        tokens,
+    )?;
     Ok(Reply {
         text,
         status: text_status(rule),
@@ -131,7 +142,7 @@ fn fault_reply(
 {
     let profile = Profile::Lenient;
     let rule = Rule::Proof(fault.0);
-    let cause = cause_of(alloc, profile, book, id, tokens, fault)?;
+    let cause = cause_of(alloc, &[*proof], profile, book, id, tokens, fault)?;
     let at = place_among(tokens, proof.bytes.len(), &cause);
     let mut text = refused_text(alloc, rule, fault.1)?;
     push_head_at(&mut text, &[*proof], (0, at), (rule, fault.1), None)?;
@@ -164,7 +175,7 @@ fn tokens_reply(
             text: Vec::from_slice(alloc, b"proof\n")?,
             status: Status::Done,
         }),
-        Ok(Proved::Incomplete) => prefix_reply(alloc, book, id, tokens),
+        Ok(Proved::Incomplete) => prefix_reply(alloc, book, id, proof, tokens),
         Err(ProofFault::Rule { rule, step }) => {
             fault_reply(alloc, book, id, proof, tokens, (rule, step))
         }

@@ -254,7 +254,7 @@ fn push_explanation<'a>(
 {
     let fault = fault_in(refusal);
     let id = last_number(book, statement);
-    let cause = cause_of(alloc, profile, book, id, &statement.proof, fault)?;
+    let cause = cause_of(alloc, files, profile, book, id, &statement.proof, fault)?;
     push_head(out, files, fault_place(statement, &cause), refusal)?;
     push_cause(out, alloc, profile, book, id, &cause, fault.0)?;
     let place = (id, refusal.statement - 1);

@@ -42,6 +42,7 @@ use Rattle.mm_step.specs.Steps.{IsNumberedMove}
 use Rattle.mm_step.proofs.ProofSteps.OneStep.{one_names, agree, same_substituted}
 use Rattle.mm_step.specs.Substitution.{instance_of}
 use Rattle.mm_facts.proofs.DetailTexts.{all_same}
+use Rattle.mm_facts.proofs.StepPlaces.{zip_from}
 use Rattle.mm_base.proofs.Lists.{get_within}
 use Rattle.std.specs.Prelude.{filter, not}
 use Rattle.std.proofs.lemmas.List.Elements.{filter-append}
@@ -71,17 +72,6 @@ stack_parts before stack label m =
     let paired = m.paired in
     omega (arith, length-append m.rest m.entries)
 
-zip_from : {X Y : Type 0} (R : X → Y → Type 0) (xs : List X) (ys : List Y) → length xs ≡ length ys
-    → ((k : ℕ) (x : X) → slice_get xs k ≡ Some x → (y : Y) × (slice_get ys k ≡ Some y) × R x y)
-    → AllZip R xs ys
-zip_from R [] [] count each = tt
-zip_from R [] (y ∷ ys) count each = absurd (omega arith)
-zip_from R (x ∷ xs) [] count each = absurd (omega arith)
-zip_from {X} {Y} R (x ∷ xs) (y ∷ ys) count each =
-    let first = each 0 x refl in
-    let same : first.0 ≡ y = same_Some first.0 y (sym first.1) in
-    (subst (R x) same first.2, zip_from R xs ys (omega arith) (λ k z there. each (suc k) z there))
-
 -- the entries from the first of the hypotheses on
 pub entries_zip : (limit : ℕ) (st before : List Sentence) (s : Sentence) (prefix : Bool)
     (moves : List (Move (List ℕ))) (halt : Halt) (h : HaltsProof limit st before s prefix moves halt)
@@ -101,27 +91,27 @@ entries_zip limit st before s prefix moves halt h label m base es is count tells
     (entry.0, ap (λ (all : List Expression). slice_get all k) (sym lower) ∙ drop_get h.there.stack base k ∙ entry.1, entry.2))
 
 -- one hypothesis more
-pub one_asked : (st before : List Sentence) (stack : List Expression) (origins : List ℕ)
+pub one_asked : (st before : List Sentence) (stack : List Expression) (steps : List (List ℕ))
     (label : List ℕ) (m : MeetsHypotheses before stack label) (k : ℕ) (old o₁ o₂ : List ℕ)
-    (hypothesis : Sentence) (text : List ℕ) (number : ℕ) (given e : Expression)
+    (hypothesis : Sentence) (text step : List ℕ) (given e : Expression)
     (asked_numbers given_numbers : List ℕ) (unmet : Bool)
-    → AskedSoFar unmet before stack origins label m k old o₁
+    → AskedSoFar unmet before stack steps label m k old o₁
     → slice_get m.hypotheses k ≡ Some hypothesis → IsLabelled text hypothesis
-    → slice_get origins (length m.rest + k) ≡ Some number → slice_get m.entries k ≡ Some given
+    → slice_get steps (length m.rest + k) ≡ Some step → slice_get m.entries k ≡ Some given
     → AsksFor before stack label k e → AreNumbers st asked_numbers e → AreNumbers st given_numbers given
     → o₂ ≡ o₁ ++ details_text (filter (is_told unmet) (hypothesis_asks text
-    (labels_at (symbols_of st) asked_numbers) number (labels_at (symbols_of st) given_numbers) ∷
+    (labels_at (symbols_of st) asked_numbers) step (labels_at (symbols_of st) given_numbers) ∷
     []))
-    → AskedSoFar unmet before stack origins label m (k + 1) old o₂
-one_asked st before stack origins label m k old o₁ o₂ hypothesis text number given e asked_numbers
+    → AskedSoFar unmet before stack steps label m (k + 1) old o₂
+one_asked st before stack steps label m k old o₁ o₂ hypothesis text step given e asked_numbers
     given_numbers unmet so_far there labelled origin entry asks are_asked are_given told =
-    let d : Detail = hypothesis_asks (unwrap_or hypothesis.label []) e number given in
+    let d : Detail = hypothesis_asks (unwrap_or hypothesis.label []) e step given in
     let asked_named : labels_at (symbols_of st) asked_numbers ≡ e = names_at (symbols_of st) asked_numbers e are_asked in
     let given_named : labels_at (symbols_of st) given_numbers ≡ given = names_at (symbols_of st) given_numbers given are_given in
     let its : text ≡ unwrap_or hypothesis.label [] = ap (λ (o : Option (List ℕ)). unwrap_or o []) (sym labelled) in
     let those : List Detail → List ℕ = λ ds. details_text (filter (is_told unmet) ds) in
     let one : List ℕ → Expression → Expression → List ℕ = λ l f g. o₁ ++ those (hypothesis_asks l f
-    number g ∷ []) in
+    step g ∷ []) in
     let whole : those (so_far.details ++ d ∷ []) ≡ those so_far.details ++ those (d ∷ []) =
     ap (λ ds. details_text ds) (filter-append (is_told unmet) so_far.details (d ∷ []))
     ∙ flat_map-append detail_text (filter (is_told unmet) so_far.details) (filter (is_told unmet)
@@ -141,29 +131,29 @@ one_asked st before stack origins label m k old o₁ o₂ hypothesis text number
     }
   where
     last : Detail
-    last = hypothesis_asks (unwrap_or hypothesis.label []) e number given
+    last = hypothesis_asks (unwrap_or hypothesis.label []) e step given
 
-    own : (i : ℕ) → k ≡ i → (h : Sentence) (f : Expression) (n : ℕ)
+    own : (i : ℕ) → k ≡ i → (h : Sentence) (f : Expression) (n : List ℕ)
         → slice_get m.hypotheses i ≡ Some h → slice_get m.entries i ≡ Some f
-        → slice_get origins (length m.rest + i) ≡ Some n
+        → slice_get steps (length m.rest + i) ≡ Some n
         → (asked : Expression) × AsksFor before stack label i asked
         × (slice_get (so_far.details ++ last ∷ []) i ≡ Some (hypothesis_asks (unwrap_or h.label []) asked n f))
     own i is h f n at_h at_f at_n =
         let same_h : hypothesis ≡ h = same_Some hypothesis h (sym there ∙ ap (slice_get m.hypotheses) is ∙ at_h) in
         let same_f : given ≡ f = same_Some given f (sym entry ∙ ap (slice_get m.entries) is ∙ at_f) in
-        let same_n : number ≡ n = same_Some number n (sym origin ∙ ap (λ (j : ℕ). slice_get origins (length m.rest + j)) is ∙ at_n) in
+        let same_n : step ≡ n = same_Some step n (sym origin ∙ ap (λ (j : ℕ). slice_get steps (length m.rest + j)) is ∙ at_n) in
         let place : i ≡ length so_far.details = sym is ∙ sym so_far.counted in (
           e,
           subst (λ (j : ℕ). AsksFor before stack label j e) is asks,
           ap (slice_get (so_far.details ++ last ∷ [])) place ∙ get_pushed so_far.details last
-              ∙ ap (λ (g : Sentence). Some (hypothesis_asks (unwrap_or g.label []) e number given)) same_h
-              ∙ ap (λ (g : Expression). Some (hypothesis_asks (unwrap_or h.label []) e number g)) same_f
-              ∙ ap (λ (j : ℕ). Some (hypothesis_asks (unwrap_or h.label []) e j f)) same_n,
+              ∙ ap (λ (g : Sentence). Some (hypothesis_asks (unwrap_or g.label []) e step given)) same_h
+              ∙ ap (λ (g : Expression). Some (hypothesis_asks (unwrap_or h.label []) e step g)) same_f
+              ∙ ap (λ (j : List ℕ). Some (hypothesis_asks (unwrap_or h.label []) e j f)) same_n,
         )
 
-    go : (i : ℕ) (b : Bool) → (i == k) ≡ b → (h : Sentence) (f : Expression) (n : ℕ) → i < k + 1
+    go : (i : ℕ) (b : Bool) → (i == k) ≡ b → (h : Sentence) (f : Expression) (n : List ℕ) → i < k + 1
         → slice_get m.hypotheses i ≡ Some h → slice_get m.entries i ≡ Some f
-        → slice_get origins (length m.rest + i) ≡ Some n
+        → slice_get steps (length m.rest + i) ≡ Some n
         → (asked : Expression) × AsksFor before stack label i asked
         × (slice_get (so_far.details ++ last ∷ []) i ≡ Some (hypothesis_asks (unwrap_or h.label []) asked n f))
     go i true is h f n less at_h at_f at_n =
@@ -262,12 +252,11 @@ entry_pushed halt base index es new e is count before last = (
 
 -- ---- all of them
 
-pub so_far_all : (unmet : Bool) (before : List Sentence) (stack : List Expression) (origins : List
-    ℕ) (label : List ℕ)
+pub so_far_all : (unmet : Bool) (before : List Sentence) (stack : List Expression) (steps : List (List ℕ)) (label : List ℕ)
     (m : MeetsHypotheses before stack label) (k : ℕ) (old new : List ℕ)
-    → (so_far : AskedSoFar unmet before stack origins label m k old new) → length m.hypotheses ≡ k
-    → AreAsked before stack origins label so_far.details
-so_far_all unmet before stack origins label m k old new so_far count = record {
+    → (so_far : AskedSoFar unmet before stack steps label m k old new) → length m.hypotheses ≡ k
+    → AreAsked before stack steps label so_far.details
+so_far_all unmet before stack steps label m k old new so_far count = record {
   met = m;
   count = so_far.counted ∙ sym count;
   each = λ i h f n at_h at_f at_n.
@@ -286,11 +275,11 @@ asked_once before stack label all i e f (m, h, at, is) (n, g, there, made) =
     ∙ same_substituted m.σ n.σ g.symbols z.replacement ∙ sym made
 
 -- and so these facts are the same
-asked_details_once : (before : List Sentence) (stack : List Expression) (origins : List ℕ) (label :
+asked_details_once : (before : List Sentence) (stack : List Expression) (steps : List (List ℕ)) (label :
     List ℕ)
-    → AllMeant before → length origins ≡ length stack → (ds es : List Detail)
-    → AreAsked before stack origins label ds → AreAsked before stack origins label es → ds ≡ es
-asked_details_once before stack origins label all count ds es a b =
+    → AllMeant before → length steps ≡ length stack → (ds es : List Detail)
+    → AreAsked before stack steps label ds → AreAsked before stack steps label es → ds ≡ es
+asked_details_once before stack steps label all count ds es a b =
     let z = agree before stack label all a.met b.met in
     let many = a.count in
     let paired = a.met.paired in
@@ -298,25 +287,24 @@ asked_details_once before stack origins label all count ds es a b =
     all_same ds es (a.count ∙ ap length z.hypotheses ∙ sym b.count) (λ i less.
     let h = get_within a.met.hypotheses i (omega arith) in
     let f = get_within a.met.entries i (omega arith) in
-    let n = get_within origins (length a.met.rest + i) (omega arith) in
+    let n = get_within steps (length a.met.rest + i) (omega arith) in
     let x = a.each i h.0 f.0 n.0 h.1 f.1 n.1 in
     let y = b.each i h.0 f.0 n.0 (ap (λ (hs : List Sentence). slice_get hs i) (sym z.hypotheses) ∙
     h.1)
     (ap (λ (fs : List Expression). slice_get fs i) (sym z.entries) ∙ f.1)
-    (ap (λ (r : List Expression). slice_get origins (length r + i)) (sym z.rest) ∙ n.1) in
+    (ap (λ (r : List Expression). slice_get steps (length r + i)) (sym z.rest) ∙ n.1) in
     x.2 ∙ ap (λ (e : Expression). Some (hypothesis_asks (unwrap_or h.0.label []) e n.0 f.0))
     (asked_once before stack label all i x.0 y.0 x.1 y.1) ∙ sym y.2)
 
 -- those of the hypotheses that aren't met, and then the others
-pub turn_told : (before : List Sentence) (s : Sentence) (stack kept : List Expression) (origins :
-    List ℕ)
-    (left : List (Move (List ℕ))) → AllMeant before → length origins ≡ length stack
+pub turn_told : (before : List Sentence) (s : Sentence) (stack kept : List Expression) (steps : List (List ℕ))
+    (left : List (Move (List ℕ))) → AllMeant before → length steps ≡ length stack
     → (first second : List Detail) (old o₁ o₂ : List ℕ)
-    → AskedFacts true before s stack kept origins left first → o₁ ≡ old ++ details_text first
-    → AskedFacts false before s stack kept origins left second → o₂ ≡ o₁ ++ details_text second
-    → (details : List Detail) × TurnFacts before s stack kept origins left details
+    → AskedFacts true before s stack kept steps left first → o₁ ≡ old ++ details_text first
+    → AskedFacts false before s stack kept steps left second → o₂ ≡ o₁ ++ details_text second
+    → (details : List Detail) × TurnFacts before s stack kept steps left details
     × (o₂ ≡ old ++ details_text details)
-turn_told before s stack kept origins left all count first second old o₁ o₂ (
+turn_told before s stack kept steps left all count first second old o₁ o₂ (
   label,
   more,
   is,
@@ -327,8 +315,8 @@ turn_told before s stack kept origins left all count first second old o₁ o₂ 
     let both : name label' ∷ more' ≡ name label ∷ more = sym is' ∙ is in
     let named : label' ≡ label = cc in
     let same : es ≡ ds =
-    asked_details_once before stack origins label all count es ds (subst (λ (l : List ℕ). AreAsked
-    before stack origins l es) named asked') asked in
+    asked_details_once before stack steps label all count es ds (subst (λ (l : List ℕ). AreAsked
+    before stack steps l es) named asked') asked in
     let others : second ≡ filter (λ d. not (is_unmet d)) ds = told' ∙ ap (λ (xs : List Detail).
     filter (λ d. not (is_unmet d)) xs) same in (
       first ++ second,

@@ -203,13 +203,13 @@ difference_told st e f (Some k) in_e in_f same differ first =
 
 -- ---- what is asked, and what is given
 
-pub but_given : (out o₁ o₂ o₃ o₄ : List ℕ) (asked given : List (List ℕ)) (number : ℕ) (r : Option ℕ)
+pub but_given : (out o₁ o₂ o₃ o₄ : List ℕ) (asked given : List (List ℕ)) (step : List ℕ) (r : Option ℕ)
     → difference asked given ≡ r → o₁ ≡ out ++ expression_line asked
-    → o₂ ≡ o₁ ++ (codes "  but step " ++ decimal number ++ codes " gives\n")
+    → o₂ ≡ o₁ ++ (codes "  but step " ++ step ++ codes ", gives\n")
     → o₃ ≡ o₂ ++ expression_line given → o₄ ≡ o₃ ++ difference_line asked given r
-    → o₄ ≡ out ++ but_given_text asked number given
-but_given out o₁ o₂ o₃ o₄ asked given number r told h₁ h₂ h₃ h₄ =
-    go (expression_line asked) (codes "  but step ") (decimal number) (codes " gives\n") (expression_line given)
+    → o₄ ≡ out ++ but_given_text asked step given
+but_given out o₁ o₂ o₃ o₄ asked given step r told h₁ h₂ h₃ h₄ =
+    go (expression_line asked) (codes "  but step ") step (codes ", gives\n") (expression_line given)
     (difference_line asked given (difference asked given)) h₁ h₂ h₃
     (h₄ ∙ ap (λ (q : Option ℕ). o₃ ++ difference_line asked given q) (sym told))
   where
@@ -218,26 +218,26 @@ but_given out o₁ o₂ o₃ o₄ asked given number r told h₁ h₂ h₃ h₄ 
     go a b c d e f k₁ k₂ k₃ k₄ = rw (k₄, k₃, k₂, k₁) (simp append_assoc)
 
 -- they are the same, so they are told once
-pub asks_same : (out o₁ o₂ o₃ label : List ℕ) (asked given : List (List ℕ)) (number : ℕ)
+pub asks_same : (out o₁ o₂ o₃ label : List ℕ) (asked given : List (List ℕ)) (step : List ℕ)
     → difference asked given ≡ None → o₁ ≡ out ++ (codes "  " ++ label ++ codes " asks, and step ")
-    → o₂ ≡ o₁ ++ ([] ++ decimal number ++ codes " gives\n") → o₃ ≡ o₂ ++ expression_line asked
-    → o₃ ≡ out ++ detail_text (hypothesis_asks label asked number given)
-asks_same out o₁ o₂ o₃ label asked given number told h₁ h₂ h₃ =
-    go (codes "  ") label (codes " asks, and step ") (decimal number) (codes " gives\n") (expression_line asked) h₁ h₂ h₃
-    ∙ ap (λ (q : Option ℕ). out ++ asks_text label asked number given q) (sym told)
+    → o₂ ≡ o₁ ++ ([] ++ step ++ codes ", gives\n") → o₃ ≡ o₂ ++ expression_line asked
+    → o₃ ≡ out ++ detail_text (hypothesis_asks label asked step given)
+asks_same out o₁ o₂ o₃ label asked given step told h₁ h₂ h₃ =
+    go (codes "  ") label (codes " asks, and step ") step (codes ", gives\n") (expression_line asked) h₁ h₂ h₃
+    ∙ ap (λ (q : Option ℕ). out ++ asks_text label asked step given q) (sym told)
   where
     go : (a b c d e f : List ℕ) → o₁ ≡ out ++ (a ++ b ++ c) → o₂ ≡ o₁ ++ ([] ++ d ++ e) → o₃ ≡ o₂ ++ f
         → o₃ ≡ out ++ (a ++ b ++ c ++ d ++ e ++ f)
     go a b c d e f k₁ k₂ k₃ = rw (k₃, k₂, k₁) (simp append_assoc)
 
 -- they differ
-pub asks_other : (out o₁ o₂ label : List ℕ) (asked given : List (List ℕ)) (number k : ℕ)
+pub asks_other : (out o₁ o₂ label : List ℕ) (asked given : List (List ℕ)) (step : List ℕ) (k : ℕ)
     → difference asked given ≡ Some k → o₁ ≡ out ++ (codes "  " ++ label ++ codes " asks\n")
-    → o₂ ≡ o₁ ++ but_given_text asked number given
-    → o₂ ≡ out ++ detail_text (hypothesis_asks label asked number given)
-asks_other out o₁ o₂ label asked given number k told h₁ h₂ =
-    go (codes "  ") label (codes " asks\n") (but_given_text asked number given) h₁ h₂
-    ∙ ap (λ (q : Option ℕ). out ++ asks_text label asked number given q) (sym told)
+    → o₂ ≡ o₁ ++ but_given_text asked step given
+    → o₂ ≡ out ++ detail_text (hypothesis_asks label asked step given)
+asks_other out o₁ o₂ label asked given step k told h₁ h₂ =
+    go (codes "  ") label (codes " asks\n") (but_given_text asked step given) h₁ h₂
+    ∙ ap (λ (q : Option ℕ). out ++ asks_text label asked step given q) (sym told)
   where
     go : (a b c d : List ℕ) → o₁ ≡ out ++ (a ++ b ++ c) → o₂ ≡ o₁ ++ d → o₂ ≡ out ++ (a ++ b ++ c ++ d)
     go a b c d k₁ k₂ = rw (k₂, k₁) (simp append_assoc)

@@ -31,6 +31,7 @@ use Rattle.mm_facts.specs.Explained.{judged_tokens, TokensHalt}
 use Rattle.mm_facts.specs.Why.{IsPosition, IsStopPlace, IsPlaceAmong}
 use Rattle.mm_facts.specs.Mirror.Explaining.{StopsIn, IsCauseOf}
 use Rattle.mm_facts.specs.declared.details.Cause.{Cause}
+use Rattle.mm_facts.specs.declared.named_halt.NamedHalt.{NamedHalt}
 use Rattle.mm_facts.specs.declared.details.Cause.TheVariants as cause
 use Rattle.mm_facts.proofs.TokenHalts.{judged_complete, judged_known, tokens_halt}
 use Rattle.mm_facts.proofs.TokenHalts.{halt_caused, fault_caused}
@@ -143,15 +144,15 @@ never_none tokens number found none whole known before s moves said less =
 -- ---- the place of a fault whose cause is where moves stop
 
 pub place_caused : {profile : Profile} {st : List Sentence} {id : ℕ} {tokens : List (List ℕ)}
-    {rule : ProofRule} {step : ℕ} {it : Cause} {steps : ReadSteps} {halt : Halt}
-    (is : it ≡ cause.Moves steps halt) (r : IsCauseOf profile st id tokens rule step it)
+    {rule : ProofRule} {step : ℕ} {it : Cause} {steps : ReadSteps} {stop : NamedHalt}
+    (is : it ≡ cause.Moves steps stop) (r : IsCauseOf profile st id tokens rule step it)
     (index : ℕ) (s : Sentence) (number : IsProofNumber st id index s)
     (placed : List PlainToken) → tokens ≡ texts_of placed → (end at : ℕ)
     → IsStopPlace placed end
     (length (halt_caused is r index s number).halts.there.earlier)
     (halt_caused is r index s number).halts.there.left at
     → IsPlaceAmong profile (take index st) s placed end rule step at
-place_caused {profile} {st} {id} {tokens} {rule} {step} {it} {steps} {halt} is r index s number
+place_caused {profile} {st} {id} {tokens} {rule} {step} {it} {steps} {stop} is r index s number
     placed same end at stops =
     let found = halt_caused is r index s number in
     let fault = fault_caused is r index s number in
@@ -161,7 +162,7 @@ place_caused {profile} {st} {id} {tokens} {rule} {step} {it} {steps} {halt} is r
     × (step ≡ steps_in h.halts.earlier + 1)
     × IsStopPlace placed end (length h.halts.earlier) h.halts.left at)
     same (
-      tokens_halt profile st before s tokens halt (Some rule) fault.0 found,
+      tokens_halt profile st before s tokens stop.halt (Some rule) fault.0 found,
       fault.1,
       stops,
     ))

@@ -4,7 +4,10 @@ use Rattle.std.proofs.Common.{get_or, slice_get, Bool, Option, Some, refl, ap, s
 use Rattle.std.proofs.Common.{◌∙◌, append_assoc, append-nil, arith, unwrap_or}
 use Rattle.std.specs.List.{AllByRecursion}
 use Rattle.std.proofs.lemmas.List.{take_all}
-use Rattle.std.proofs.lemmas.Option.{same_Some}
+use Rattle.std.proofs.lemmas.Option.{same_Some, slice_get-map, slice_get_read}
+use Rattle.std.specs.Global.{Vec}
+use Rattle.std.specs.Prelude.{option_map}
+use Rattle.std.proofs.lemmas.List.{length-map}
 use Rattle.mm_frame.specs.Sentence.{Sentence, IsLabelled}
 use Rattle.mm_frame.specs.Numbers.{symbols_of, AreNumbers, labelled_sentences}
 use Rattle.mm_step.specs.declared.fault.ProofRule.{ProofRule}
@@ -39,46 +42,61 @@ use Rattle.mm_frame.specs.declared.hypothesis.Hypothesis.{Hypothesis}
 use Rattle.mm_frame.specs.declared.number.LabelId.{LabelId}
 use Rattle.mm_step.specs.Mirror.CodeVerify.{AreHypothesesOf}
 use Rattle.mm_step.specs.Steps.{IsNumberedMove}
-use Rattle.mm_facts.specs.Mirror.Explaining.{HaltFacts, AddsAtHalt}
+use Rattle.mm_facts.specs.Mirror.Explaining.{HaltFacts, AddsAtHalt, told_steps}
+use Rattle.mm_facts.specs.declared.named_halt.NamedHalt.{NamedHalt}
 use Rattle.mm_rules.proofs.Numbers.{names_at, numbers_within}
+
+-- ---- what tells steps
+
+-- there is one for each entry
+pub count_steps : (stop : NamedHalt) → length (told_steps stop) ≡ length stop.halt.origins.items
+count_steps stop = length-map stop.texts.items (λ t. t.items) ∙ stop.each
+
+-- the one at an index
+pub step_there : (stop : NamedHalt) (k : ℕ) (d : Vec ℕ) (text : List ℕ)
+    → k < length stop.halt.origins.items → d ≡ get_or stop.texts.items k d → text ≡ d.items
+    → slice_get (told_steps stop) k ≡ Some text
+step_there stop k d text less is same =
+    let each = stop.each in
+    slice_get-map (λ t. t.items) stop.texts.items k
+    ∙ ap (option_map (λ t. t.items)) (slice_get_read stop.texts.items (length stop.texts.items) k d refl (omega arith) is)
+    ∙ ap Some (sym same)
 
 -- ---- entries of the stack
 
 -- one entry more
-one_more : (origins : List ℕ) (stack : List Expression) (k number : ℕ) (e : Expression)
-    → slice_get origins k ≡ Some number → slice_get stack k ≡ Some e
-    → details_text (entries_given (take (suc k) origins) (take (suc k) stack))
-    ≡ details_text (entries_given (take k origins) (take k stack)) ++ detail_text (entry_given number e)
-one_more [] stack k number e p q = absurd cc
-one_more (m ∷ origins) [] k number e p q = absurd cc
-one_more (m ∷ origins) (f ∷ stack) zero number e p q =
+one_more : (steps : List (List ℕ)) (stack : List Expression) (k : ℕ) (step : List ℕ) (e : Expression)
+    → slice_get steps k ≡ Some step → slice_get stack k ≡ Some e
+    → details_text (entries_given (take (suc k) steps) (take (suc k) stack))
+    ≡ details_text (entries_given (take k steps) (take k stack)) ++ detail_text (entry_given step e)
+one_more [] stack k step e p q = absurd cc
+one_more (m ∷ steps) [] k step e p q = absurd cc
+one_more (m ∷ steps) (f ∷ stack) zero step e p q =
     append-nil (detail_text (entry_given m f))
-    ∙ ap (λ (n : ℕ). detail_text (entry_given n f)) (same_Some m number p)
-    ∙ ap (λ (g : Expression). detail_text (entry_given number g)) (same_Some f e q)
-one_more (m ∷ origins) (f ∷ stack) (suc k) number e p q =
-    ap (λ (text : List ℕ). detail_text (entry_given m f) ++ text) (one_more origins stack k number e p q)
+    ∙ ap (λ (n : List ℕ). detail_text (entry_given n f)) (same_Some m step p)
+    ∙ ap (λ (g : Expression). detail_text (entry_given step g)) (same_Some f e q)
+one_more (m ∷ steps) (f ∷ stack) (suc k) step e p q =
+    ap (λ (text : List ℕ). detail_text (entry_given m f) ++ text) (one_more steps stack k step e p q)
     ∙ sym (append_assoc (detail_text (entry_given m f))
-    (details_text (entries_given (take k origins) (take k stack))) (detail_text (entry_given number e)))
+    (details_text (entries_given (take k steps) (take k stack))) (detail_text (entry_given step e)))
 
--- an entry is told by its numbers
+-- an entry is told by its numbers, and by what tells its step
 pub entry_told : (limit : ℕ) (st before : List Sentence) (s : Sentence) (prefix : Bool)
     (moves : List (Move (List ℕ))) (halt : Halt) (h : HaltsProof limit st before s prefix moves halt)
-    (k number : ℕ) (numbers o₀ o₁ o₂ : List ℕ) → TellsEntry halt k numbers
-    → slice_get halt.origins.items k ≡ Some number
-    → o₁ ≡ o₀ ++ details_text (entries_given (take k h.there.origins) (take k h.there.stack))
-    → o₂ ≡ o₁ ++ detail_text (entry_given number (labels_at (symbols_of st) numbers))
-    → o₂ ≡ o₀ ++ details_text (entries_given (take (k + 1) h.there.origins) (take (k + 1) h.there.stack))
-entry_told limit st before s prefix moves halt h k number numbers o₀ o₁ o₂ tells origin h₁ h₂ =
+    (steps : List (List ℕ)) (k : ℕ) (step numbers o₀ o₁ o₂ : List ℕ) → TellsEntry halt k numbers
+    → slice_get steps k ≡ Some step
+    → o₁ ≡ o₀ ++ details_text (entries_given (take k steps) (take k h.there.stack))
+    → o₂ ≡ o₁ ++ detail_text (entry_given step (labels_at (symbols_of st) numbers))
+    → o₂ ≡ o₀ ++ details_text (entries_given (take (k + 1) steps) (take (k + 1) h.there.stack))
+entry_told limit st before s prefix moves halt h steps k step numbers o₀ o₁ o₂ tells there h₁ h₂ =
     let entry = tells limit st before s prefix moves h in
     let named : labels_at (symbols_of st) numbers ≡ entry.0 = names_at (symbols_of st) numbers entry.0 entry.2 in
-    let there : slice_get h.there.origins k ≡ Some number =
-    subst (λ (ms : List ℕ). slice_get ms k ≡ Some number) h.same_origins origin in
     let next : k + 1 ≡ suc k = omega arith in
-    h₂ ∙ ap (λ (e : Expression). o₁ ++ detail_text (entry_given number e)) named
-    ∙ ap (λ (text : List ℕ). text ++ detail_text (entry_given number entry.0)) h₁
-    ∙ append_assoc o₀ (details_text (entries_given (take k h.there.origins) (take k h.there.stack))) (detail_text (entry_given number entry.0))
-    ∙ ap (λ (text : List ℕ). o₀ ++ text) (sym (one_more h.there.origins h.there.stack k number entry.0 there entry.1))
-    ∙ ap (λ (n : ℕ). o₀ ++ details_text (entries_given (take n h.there.origins) (take n h.there.stack))) (sym next)
+    h₂ ∙ ap (λ (e : Expression). o₁ ++ detail_text (entry_given step e)) named
+    ∙ ap (λ (text : List ℕ). text ++ detail_text (entry_given step entry.0)) h₁
+    ∙ append_assoc o₀ (details_text (entries_given (take k steps) (take k h.there.stack))) (detail_text (entry_given step entry.0))
+    ∙ ap (λ (text : List ℕ). o₀ ++ text) (sym (one_more steps h.there.stack k step entry.0 there entry.1))
+    ∙ ap (λ (n : ℕ). o₀ ++ details_text (entries_given (take n steps) (take n h.there.stack))) (sym next)
 
 -- its numbers are those of symbols
 pub entry_within : (limit : ℕ) (st before : List Sentence) (s : Sentence) (prefix : Bool)
@@ -92,15 +110,16 @@ entry_within limit st before s prefix moves halt k numbers h tells =
 -- all entries
 pub all_entries : (limit : ℕ) (st before : List Sentence) (s : Sentence) (prefix : Bool)
     (moves : List (Move (List ℕ))) (halt : Halt) (h : HaltsProof limit st before s prefix moves halt)
-    (k : ℕ) (o₀ o₁ : List ℕ) → length halt.origins.items ≤ k
-    → o₁ ≡ o₀ ++ details_text (entries_given (take k h.there.origins) (take k h.there.stack))
-    → o₁ ≡ o₀ ++ details_text (entries_given h.there.origins h.there.stack)
-all_entries limit st before s prefix moves halt h k o₀ o₁ all told =
+    (steps : List (List ℕ)) (k : ℕ) (o₀ o₁ : List ℕ) → length steps ≡ length halt.origins.items
+    → length halt.origins.items ≤ k
+    → o₁ ≡ o₀ ++ details_text (entries_given (take k steps) (take k h.there.stack))
+    → o₁ ≡ o₀ ++ details_text (entries_given steps h.there.stack)
+all_entries limit st before s prefix moves halt h steps k o₀ o₁ each all told =
     let count = h.there.made.count in
     let origins : length h.there.origins ≤ k = subst (λ (ms : List ℕ). length ms ≤ k) h.same_origins all in
     told
-    ∙ ap (λ (ms : List ℕ). o₀ ++ details_text (entries_given ms (take k h.there.stack))) (take_all k h.there.origins origins)
-    ∙ ap (λ (es : List Expression). o₀ ++ details_text (entries_given h.there.origins es)) (take_all k h.there.stack (omega arith))
+    ∙ ap (λ (ms : List (List ℕ)). o₀ ++ details_text (entries_given ms (take k h.there.stack))) (take_all k steps (omega arith))
+    ∙ ap (λ (es : List Expression). o₀ ++ details_text (entries_given steps es)) (take_all k h.there.stack (omega arith))
 
 -- ---- the end
 
@@ -115,73 +134,75 @@ none_left st (m ∷ more) a e h = absurd (go m (subst (StandsAtHalt st (m ∷ mo
     go (again tag) h = h
     go mark h = h
 
-single : (ms : List ℕ) → length ms ≡ 1 → (m : ℕ) × (ms ≡ m ∷ [])
+single : (ms : List (List ℕ)) → length ms ≡ 1 → (m : List ℕ) × (ms ≡ m ∷ [])
 single [] e = absurd (omega arith)
 single (m ∷ []) e = (m, refl)
 single (m ∷ n ∷ ms) e = absurd (omega arith)
 
 -- one entry is left that isn't the statement's
-pub record LeavesOne (stack : List Expression) (origins : List ℕ) : Type 0 where
+pub record LeavesOne (stack : List Expression) (steps : List (List ℕ)) : Type 0 where
   pub given : Expression
-  pub number : ℕ
+  pub step : List ℕ
   pub entry : stack ≡ given ∷ []
-  pub origin : origins ≡ number ∷ []
+  pub origin : steps ≡ step ∷ []
 
 pub leaves_one : (limit : ℕ) (st before : List Sentence) (s : Sentence) (prefix : Bool)
     (moves : List (Move (List ℕ))) (halt : Halt) (h : HaltsProof limit st before s prefix moves halt)
-    → halt.at ≡ at.End → halt.rule ≡ Some P14 → LeavesOne h.there.stack h.there.origins
-leaves_one limit st before s prefix moves halt h end rule =
+    (steps : List (List ℕ)) → length steps ≡ length halt.origins.items
+    → halt.at ≡ at.End → halt.rule ≡ Some P14 → LeavesOne h.there.stack steps
+leaves_one limit st before s prefix moves halt h steps each end rule =
     let Stops : List (Move (List ℕ)) → Option ProofRule → Type 0 =
     λ left r. StopsWith (IsWithin limit) before s prefix h.there.stack h.there.kept left r in
     let left : h.there.left ≡ [] = none_left st h.there.left halt.at end h.place in
     let broken : Stops [] (Some P14) = subst (λ (r : Option ProofRule). Stops [] r) rule (subst (λ (l : List (Move (List ℕ))). Stops l halt.rule) left h.there.stops) in
-    let origin = single h.there.origins (h.there.made.count ∙ ap length broken.1.1) in
-    record { given = broken.1.0; number = origin.0; entry = broken.1.1; origin = origin.1 }
+    let origin = single steps (each ∙ ap length h.same_origins ∙ h.there.made.count ∙ ap length broken.1.1) in
+    record { given = broken.1.0; step = origin.0; entry = broken.1.1; origin = origin.1 }
 
 -- what is stated, and what is left
 pub end_told : (limit : ℕ) (st before : List Sentence) (s : Sentence) (prefix : Bool)
     (moves : List (Move (List ℕ))) (halt : Halt) (h : HaltsProof limit st before s prefix moves halt)
-    (number : ℕ) (stated numbers o₀ o₁ : List ℕ) (r : ProofRule) → r ≡ P14 → halt.at ≡ at.End → halt.rule ≡ Some r
+    (steps : List (List ℕ)) → length steps ≡ length halt.origins.items
+    → (step stated numbers o₀ o₁ : List ℕ) (r : ProofRule) → r ≡ P14 → halt.at ≡ at.End → halt.rule ≡ Some r
     → AreNumbers st stated s.symbols → TellsEntry halt 0 numbers
-    → number ≡ get_or halt.origins.items 0 number
-    → o₁ ≡ o₀ ++ detail_text (end_given (labels_at (symbols_of st) stated) number (labels_at (symbols_of st) numbers))
-    → (details : List Detail) × AreEndDetails s h.there.stack h.there.origins r details
+    → slice_get steps 0 ≡ Some step
+    → o₁ ≡ o₀ ++ detail_text (end_given (labels_at (symbols_of st) stated) step (labels_at (symbols_of st) numbers))
+    → (details : List Detail) × AreEndDetails s h.there.stack steps r details
     × (o₁ ≡ o₀ ++ details_text details)
-end_told limit st before s prefix moves halt h number stated numbers o₀ o₁ r is end rule are tells origin told =
-    let one = leaves_one limit st before s prefix moves halt h end (rule ∙ ap Some is) in
+end_told limit st before s prefix moves halt h steps each step stated numbers o₀ o₁ r is end rule are tells there told =
+    let one = leaves_one limit st before s prefix moves halt h steps each end (rule ∙ ap Some is) in
     let entry = tells limit st before s prefix moves h in
     let expression : labels_at (symbols_of st) stated ≡ s.symbols = names_at (symbols_of st) stated s.symbols are in
     let given : labels_at (symbols_of st) numbers ≡ one.given =
     names_at (symbols_of st) numbers entry.0 entry.2
     ∙ same_Some entry.0 one.given (sym entry.1 ∙ ap (λ (es : List Expression). slice_get es 0) one.entry) in
-    let its : number ≡ one.number =
-    origin ∙ ap (λ (ms : List ℕ). get_or ms 0 number) (h.same_origins ∙ one.origin) in (
-      end_given s.symbols one.number one.given ∷ [],
-      subst (λ (q : ProofRule). AreEndDetails s h.there.stack h.there.origins q (end_given s.symbols one.number one.given ∷ [])) (sym is)
-          (one.given, one.number, one.entry, one.origin, refl),
-      told ∙ ap (λ (e : Expression). o₀ ++ detail_text (end_given e number (labels_at (symbols_of st) numbers))) expression
-          ∙ ap (λ (e : Expression). o₀ ++ detail_text (end_given s.symbols number e)) given
-          ∙ ap (λ (n : ℕ). o₀ ++ detail_text (end_given s.symbols n one.given)) its
-          ∙ ap (λ (text : List ℕ). o₀ ++ text) (sym (append-nil (detail_text (end_given s.symbols one.number one.given)))),
+    let its : step ≡ one.step =
+    same_Some step one.step (sym there ∙ ap (λ (ms : List (List ℕ)). slice_get ms 0) one.origin) in (
+      end_given s.symbols one.step one.given ∷ [],
+      subst (λ (q : ProofRule). AreEndDetails s h.there.stack steps q (end_given s.symbols one.step one.given ∷ [])) (sym is)
+          (one.given, one.step, one.entry, one.origin, refl),
+      told ∙ ap (λ (e : Expression). o₀ ++ detail_text (end_given e step (labels_at (symbols_of st) numbers))) expression
+          ∙ ap (λ (e : Expression). o₀ ++ detail_text (end_given s.symbols step e)) given
+          ∙ ap (λ (n : List ℕ). o₀ ++ detail_text (end_given s.symbols n one.given)) its
+          ∙ ap (λ (text : List ℕ). o₀ ++ text) (sym (append-nil (detail_text (end_given s.symbols one.step one.given)))),
     )
 
 -- by any other rule the entries are told
-pub end_other : (s : Sentence) (stack : List Expression) (origins : List ℕ) (rule : ProofRule)
-    (details : List Detail) → rule ≢ P14 → details ≡ entries_given origins stack
-    → AreEndDetails s stack origins rule details
-end_other s stack origins P14 details other e = absurd (other refl)
-end_other s stack origins _ details other e = e
+pub end_other : (s : Sentence) (stack : List Expression) (steps : List (List ℕ)) (rule : ProofRule)
+    (details : List Detail) → rule ≢ P14 → details ≡ entries_given steps stack
+    → AreEndDetails s stack steps rule details
+end_other s stack steps P14 details other e = absurd (other refl)
+end_other s stack steps _ details other e = e
 
 -- facts are told, and so these
-pub adds_as : (limit : ℕ) (st : List Sentence) (id : ℕ) (halt : Halt) (P Q : HaltFacts)
+pub adds_as : (limit : ℕ) (st : List Sentence) (id : ℕ) (stop : NamedHalt) (P Q : HaltFacts)
     (old new : List ℕ)
-    → ((before : List Sentence) (s : Sentence) (stack kept : List Expression) (origins : List ℕ)
+    → ((before : List Sentence) (s : Sentence) (stack kept : List Expression) (steps : List (List ℕ))
     (left : List (Move (List ℕ))) (details : List Detail)
-    → P before s stack kept origins left details → Q before s stack kept origins left details)
-    → AddsAtHalt limit st id halt P old new → AddsAtHalt limit st id halt Q old new
-adds_as limit st id halt P Q old new f told index s prefix moves number h =
+    → P before s stack kept steps left details → Q before s stack kept steps left details)
+    → AddsAtHalt limit st id stop P old new → AddsAtHalt limit st id stop Q old new
+adds_as limit st id stop P Q old new f told index s prefix moves number h =
     let found = told index s prefix moves number h in
-    (found.0, f (take index st) s h.there.stack h.there.kept h.there.origins h.there.left found.0 found.1, found.2)
+    (found.0, f (take index st) s h.there.stack h.there.kept (told_steps stop) h.there.left found.0 found.1, found.2)
 
 -- ---- hypotheses
 
@@ -298,18 +319,18 @@ frame_names st index all id at a numbered kind ids are label move other b hs nam
     }) move
 
 -- how many entries are taken and are there, what is stated, and what there is
-pub too_few : (o₀ o₁ o₂ o₃ : List ℕ) (needed there : ℕ) (hs : List Sentence) (origins : List ℕ)
+pub too_few : (o₀ o₁ o₂ o₃ : List ℕ) (needed there : ℕ) (hs : List Sentence) (steps : List (List ℕ))
     (stack : List Expression) (entries : List Detail) → needed ≡ length hs → there ≡ length stack
-    → entries ≡ entries_given origins stack → o₁ ≡ o₀ ++ detail_text (entry_counts needed there)
+    → entries ≡ entries_given steps stack → o₁ ≡ o₀ ++ detail_text (entry_counts needed there)
     → o₂ ≡ o₁ ++ details_text (hypotheses_stated hs) → o₃ ≡ o₂ ++ details_text entries
     → o₃ ≡ o₀ ++ details_text (entry_counts (length hs) (length stack)
-    ∷ (hypotheses_stated hs ++ entries_given origins stack))
-too_few o₀ o₁ o₂ o₃ needed there hs origins stack entries n t e h₁ h₂ h₃ =
-    let whole : details_text (hypotheses_stated hs ++ entries_given origins stack)
-    ≡ details_text (hypotheses_stated hs) ++ details_text (entries_given origins stack) =
+    ∷ (hypotheses_stated hs ++ entries_given steps stack))
+too_few o₀ o₁ o₂ o₃ needed there hs steps stack entries n t e h₁ h₂ h₃ =
+    let whole : details_text (hypotheses_stated hs ++ entries_given steps stack)
+    ≡ details_text (hypotheses_stated hs) ++ details_text (entries_given steps stack) =
     simp flat_map-append in
     parts (detail_text (entry_counts (length hs) (length stack))) (details_text (hypotheses_stated hs))
-    (details_text (entries_given origins stack))
+    (details_text (entries_given steps stack))
     (h₁ ∙ ap (λ (k : ℕ). o₀ ++ detail_text (entry_counts k there)) n ∙ ap (λ (k : ℕ). o₀ ++ detail_text (entry_counts (length hs) k)) t)
     h₂ (h₃ ∙ ap (λ (ds : List Detail). o₂ ++ details_text ds) e)
     ∙ ap (λ (text : List ℕ). o₀ ++ (detail_text (entry_counts (length hs) (length stack)) ++ text)) (sym whole)
@@ -318,16 +339,16 @@ too_few o₀ o₁ o₂ o₃ needed there hs origins stack entries n t e h₁ h�
     parts a b c k₁ k₂ k₃ = rw (k₃, k₂, k₁) (simp append_assoc)
 
 -- of another rule nothing is told behind the label
-pub step_other : (limit : ℕ) (before : List Sentence) (stack : List Expression) (origins : List ℕ)
+pub step_other : (limit : ℕ) (before : List Sentence) (stack : List Expression) (steps : List (List ℕ))
     (label : List ℕ) (rule : ProofRule) → rule ≢ P8 → rule ≢ P9 → rule ≢ P10 → rule ≢ P11 → rule ≢ P12
-    → rule ≢ L1 → AreStepDetails limit before stack origins label rule []
-step_other limit before stack origins label P8 few code other share apart long = absurd (few refl)
-step_other limit before stack origins label P9 few code other share apart long = absurd (code refl)
-step_other limit before stack origins label P10 few code other share apart long = absurd (other refl)
-step_other limit before stack origins label P11 few code other share apart long = absurd (share refl)
-step_other limit before stack origins label P12 few code other share apart long = absurd (apart refl)
-step_other limit before stack origins label L1 few code other share apart long = absurd (long refl)
-step_other limit before stack origins label _ few code other share apart long = refl
+    → rule ≢ L1 → AreStepDetails limit before stack steps label rule []
+step_other limit before stack steps label P8 few code other share apart long = absurd (few refl)
+step_other limit before stack steps label P9 few code other share apart long = absurd (code refl)
+step_other limit before stack steps label P10 few code other share apart long = absurd (other refl)
+step_other limit before stack steps label P11 few code other share apart long = absurd (share refl)
+step_other limit before stack steps label P12 few code other share apart long = absurd (apart refl)
+step_other limit before stack steps label L1 few code other share apart long = absurd (long refl)
+step_other limit before stack steps label _ few code other share apart long = refl
 
 -- the text of one fact
 pub one_told : (o₀ o₁ : List ℕ) (d : Detail) → o₁ ≡ o₀ ++ detail_text d → o₁ ≡ o₀ ++ details_text (d ∷ [])

@@ -1,4 +1,5 @@
 pub mod DetailTexts
+pub mod StepPlaces
 pub mod HaltDetails
 pub mod TokenHalts
 pub mod AskedDetails

@@ -28,6 +28,7 @@ use Rattle.mm_facts.specs.Explained.{IsTokensFault, judged_tokens, TokensHalt}
 use Rattle.mm_facts.specs.Mirror.Explaining.{AreJudgedSteps, Causes, IsCauseOf, IsHaltOf}
 use Rattle.mm_facts.specs.Mirror.Explaining.{StopsIn}
 use Rattle.mm_facts.specs.declared.details.Cause.{Cause}
+use Rattle.mm_facts.specs.declared.named_halt.NamedHalt.{NamedHalt}
 use Rattle.mm_facts.specs.declared.details.Cause.TheVariants as cause
 use Rattle.mm_frame.proofs.Rules.ObeyedRules.{allformed_prefix, allmeant_prefix}
 use Rattle.std.proofs.Common.{Bor, ◌≤◌, length, slice_get, arith}
@@ -320,28 +321,28 @@ known_text_fault profile before s tokens rule step (inr (c, inr fault)) none kno
 
 -- the moves of the judged tokens
 module _ {profile : Profile} {st : List Sentence} {id : ℕ} {tokens : List (List ℕ)}
-    {rule : ProofRule} {step : ℕ} {it : Cause} {steps : ReadSteps} {halt : Halt}
-    (is : it ≡ cause.Moves steps halt) (r : IsCauseOf profile st id tokens rule step it) where
+    {rule : ProofRule} {step : ℕ} {it : Cause} {steps : ReadSteps} {stop : NamedHalt}
+    (is : it ≡ cause.Moves steps stop) (r : IsCauseOf profile st id tokens rule step it) where
   pub moves_caused : (step ≢ 0) × AreJudgedSteps profile st id tokens steps
       × OfMoves st id steps.moves (λ index s moves. HaltsProof (limit_of steps.profile) st
-      (take index st) s steps.prefix moves halt)
+      (take index st) s steps.prefix moves stop.halt)
   moves_caused = subst (Causes profile st id tokens rule step) is r.causes
 
   module _ (index : ℕ) (s : Sentence) (proof : IsProofNumber st id index s) where
     -- they stop there
-    abbrev pub halt_caused : FoundHalt profile st (take index st) s tokens halt
+    abbrev pub halt_caused : FoundHalt profile st (take index st) s tokens stop.halt
     halt_caused =
-        found_halt profile st id tokens steps halt moves_caused.1 moves_caused.2 index s proof
+        found_halt profile st id tokens steps stop.halt moves_caused.1 moves_caused.2 index s proof
 
     -- by the rule of the fault, and at its step
-    pub fault_caused : (halt.rule ≡ Some rule)
+    pub fault_caused : (stop.halt.rule ≡ Some rule)
         × (step ≡ steps_in halt_caused.halts.there.earlier + 1)
     fault_caused =
-        found_fault profile st (take index st) s tokens halt rule step
+        found_fault profile st (take index st) s tokens stop.halt rule step
         (allmeant_prefix st index r.sound.0) (allformed_prefix st index r.sound.1)
         (r.fault index s proof) halt_caused
 
-    pub is_halt_of : IsHaltOf (limit_of profile) st id halt
+    pub is_halt_of : IsHaltOf (limit_of profile) st id stop.halt
     is_halt_of = record {
       index = index;
       s = s;
@@ -351,7 +352,7 @@ module _ {profile : Profile} {st : List Sentence} {id : ℕ} {tokens : List (Lis
       halts = halt_caused.halts;
     }
 
-    pub stops_in : StopsIn tokens halt
+    pub stops_in : StopsIn tokens stop.halt
     stops_in = (
       limit_of profile,
       st,

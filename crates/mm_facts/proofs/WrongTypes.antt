@@ -216,29 +216,29 @@ module _ (st : List Sentence) (xs : List Hypothesis) (hs : List Sentence) (es : 
       }
 
 -- it is told, and the types of all
-pub types_told : (st before : List Sentence) (stack : List Expression) (origins : List ℕ) (label :
+pub types_told : (st before : List Sentence) (stack : List Expression) (steps : List (List ℕ)) (label :
     List ℕ)
     (m : MeetsHypotheses before stack label) (xs : List Hypothesis) (es : List (List ℕ))
     (typed : HaveTypings st xs) (numbered : AreHypothesesOf st (map (λ h. h.id.0) xs) m.hypotheses)
     (zip : AllZip (AreNumbers st) es m.entries) (index : ℕ) (code : Sym) (d : Hypothesis)
     → IsFirstOfOtherCode xs es index code
     → (w : WrongType st xs m.hypotheses es m.entries typed numbered zip index code d)
-    → (number : ℕ) (asking code_name : List ℕ) (numbers taken given : List ℕ) (o₀ o₁ o₂ : List ℕ)
-    → slice_get origins (length m.rest + index) ≡ Some number → IsLabelled asking w.hypothesis
+    → (step asking code_name : List ℕ) (numbers taken given : List ℕ) (o₀ o₁ o₂ : List ℕ)
+    → slice_get steps (length m.rest + index) ≡ Some step → IsLabelled asking w.hypothesis
     → IsNumberOf st code_name code.0 → slice_get es index ≡ Some numbers
     → AreNumbers st taken (type_codes (map (λ h. h.symbols) m.hypotheses))
     → AreNumbers st given (type_codes m.entries)
-    → o₁ ≡ o₀ ++ detail_text (type_asked asking code_name number (labels_at (symbols_of st)
+    → o₁ ≡ o₀ ++ detail_text (type_asked asking code_name step (labels_at (symbols_of st)
     numbers))
     → o₂ ≡ o₁ ++ detail_text (types_taken (labels_at (symbols_of st) taken) (labels_at (symbols_of
     st) given))
-    → (details : List Detail) × AreTypesAsked before stack origins label details
+    → (details : List Detail) × AreTypesAsked before stack steps label details
     × (o₂ ≡ o₀ ++ details_text details)
-types_told st before stack origins label m xs es typed numbered zip index code d found w number
+types_told st before stack steps label m xs es typed numbered zip index code d found w step
     asking code_name numbers taken given o₀ o₁ o₂ origin labelled is at taken_are given_are h₁ h₂ =
     let all_taken : List Symbol = type_codes (map (λ h. h.symbols) m.hypotheses) in
     let all_given : List Symbol = type_codes m.entries in
-    let first : Detail = type_asked (unwrap_or w.hypothesis.label []) w.type.code number w.given in
+    let first : Detail = type_asked (unwrap_or w.hypothesis.label []) w.type.code step w.given in
     let all : Detail = types_taken all_taken all_given in
     let its : asking ≡ unwrap_or w.hypothesis.label [] = ap (λ (o : Option (List ℕ)). unwrap_or o
     []) (sym labelled) in
@@ -248,12 +248,12 @@ types_told st before stack origins label m xs es typed numbered zip index code d
     let given_named : labels_at (symbols_of st) numbers ≡ w.given =
     ap (labels_at (symbols_of st)) same ∙ names_at (symbols_of st) w.numbers w.given w.are in
     let first_told : o₁ ≡ o₀ ++ detail_text first =
-    h₁ ∙ ap (λ (l : List ℕ). o₀ ++ detail_text (type_asked l code_name number (labels_at
+    h₁ ∙ ap (λ (l : List ℕ). o₀ ++ detail_text (type_asked l code_name step (labels_at
     (symbols_of st) numbers))) its
-    ∙ ap (λ (c : List ℕ). o₀ ++ detail_text (type_asked (unwrap_or w.hypothesis.label []) c number
+    ∙ ap (λ (c : List ℕ). o₀ ++ detail_text (type_asked (unwrap_or w.hypothesis.label []) c step
     (labels_at (symbols_of st) numbers))) code_named
     ∙ ap (λ (e : Expression). o₀ ++ detail_text (type_asked (unwrap_or w.hypothesis.label [])
-    w.type.code number e)) given_named in
+    w.type.code step e)) given_named in
     let all_told : o₂ ≡ o₁ ++ detail_text all =
     h₂ ∙ ap (λ (e : List Symbol). o₁ ++ detail_text (types_taken e (labels_at (symbols_of st)
     given))) (names_at (symbols_of st) taken all_taken taken_are)
@@ -265,7 +265,7 @@ types_told st before stack origins label m xs es typed numbered zip index code d
         index = index;
         hypothesis = w.hypothesis;
         given = w.given;
-        number = number;
+        step = step;
         its = w.its;
         entry = w.entry;
         origin = origin;

@@ -7,6 +7,9 @@ use Rattle.std.specs.Prelude.{Bool, ◌||◌, is_some}
 use Rattle.std.specs.List.{flat_map, AllZip}
 use Rattle.std.specs.Str.{bytes_eq}
 use Rattle.mm_base.specs.declared.statement.Kind.TheVariants.{Floating}
+use Rattle.mm_base.specs.Token.{PlainToken}
+use Rattle.mm_text.specs.Files.{PlainFile}
+use Rattle.mm_code.specs.Words.{texts_of}
 use Rattle.mm_frame.specs.Sentence.{Sentence, Types}
 use Rattle.mm_step.specs.declared.fault.ProofRule.{ProofRule}
 use Rattle.mm_step.specs.declared.fault.ProofRule.TheVariants.{P2, P3, P4, P8, P9, P10}
@@ -28,6 +31,7 @@ use Rattle.mm_places.specs.WholePlaces.{IsWholePlace}
 use Rattle.mm_proof.specs.UnderProfile.{IsFaultUnder, IsPrefixFaultUnder}
 use Rattle.mm_rules.specs.Shown.{symbols_text}
 use Rattle.mm_rules.specs.Explained.{AreMandatoryPairs}
+use Rattle.mm_facts.specs.StepTexts.{IsStepText}
 
 -- a fact about a fault
 pub data Detail : Type 0 where
@@ -46,16 +50,15 @@ pub data Detail : Type 0 where
   entry_counts : (needed there : ℕ) → Detail
   -- what a hypothesis states
   hypothesis_stated : (label : List ℕ) → (stated : Expression) → Detail
-  -- what the step with a number gives
-  entry_given : (number : ℕ) → (given : Expression) → Detail
-  -- the type code that a `$f` asks for, and the entry of another one, which the step with a number
-  -- gives
-  type_asked : (label code : List ℕ) → (number : ℕ) → (given : Expression) → Detail
+  -- what the step that is told so gives
+  entry_given : (step : List ℕ) → (given : Expression) → Detail
+  -- the type code that a `$f` asks for, and the entry of another one, which the step gives
+  type_asked : (label code : List ℕ) → (step : List ℕ) → (given : Expression) → Detail
   -- the type codes that the step takes, and those of the entries that it gets
   types_taken : (taken given : List Symbol) → Detail
-  -- what a hypothesis asks of the entry that the step with a number gives
+  -- what a hypothesis asks of the entry that the step gives
   hypothesis_asks :
-      (label : List ℕ) → (asked : Expression) → (number : ℕ) → (given : Expression) → Detail
+      (label : List ℕ) → (asked : Expression) → (step : List ℕ) → (given : Expression) → Detail
   -- two variables that must stay apart, and what replaces them
   pair_asked : (x y : Symbol) → (e f : List Symbol) → Detail
   -- the variables that both have
@@ -64,8 +67,8 @@ pub data Detail : Type 0 where
   step_lacks : (x y : Symbol) → Detail
   -- two variables of a `$d` that the whole proof lacks
   missing_pair : (x y : Symbol) → Detail
-  -- what is to be proved, and what the step with a number gives
-  end_given : (expression : Expression) → (number : ℕ) → (given : Expression) → Detail
+  -- what is to be proved, and what the step gives
+  end_given : (expression : Expression) → (step : List ℕ) → (given : Expression) → Detail
   -- the most symbols that an expression may have
   most_symbols : (symbols : ℕ) → Detail
   -- the place where began what the fault stands in
@@ -122,24 +125,23 @@ abbrev pub hypotheses_stated : List Sentence → List Detail
 hypotheses_stated hypotheses =
     map (λ h. hypothesis_stated (unwrap_or h.label []) h.symbols) hypotheses
 
--- what the entries of a stack are, the lowest first, each with the number of the step that made it
-abbrev pub entries_given : (origins : List ℕ) → (stack : List Expression) → List Detail
-entries_given (number ∷ origins) (entry ∷ stack) =
-    entry_given number entry ∷ entries_given origins stack
-entries_given origins stack = []
+-- what the entries of a stack are, the lowest first, each with the step that made it
+abbrev pub entries_given : (steps : List (List ℕ)) → (stack : List Expression) → List Detail
+entries_given (step ∷ steps) (entry ∷ stack) = entry_given step entry ∷ entries_given steps stack
+entries_given steps stack = []
 
 -- What each mandatory hypothesis of the assertion with the label asks, in order, where the step by
 -- it is made on this stack, whose entries these steps made; and the entry, with its step.
-pub record AreAsked (before : List Sentence) (stack : List Expression) (origins : List ℕ)
+pub record AreAsked (before : List Sentence) (stack : List Expression) (steps : List (List ℕ))
     (label : List ℕ) (details : List Detail) : Type 0 where
   pub met : MeetsHypotheses before stack label
   pub count : length details ≡ length met.hypotheses
-  pub each : (i : ℕ) (h : Sentence) (given : Expression) (number : ℕ)
+  pub each : (i : ℕ) (h : Sentence) (given : Expression) (step : List ℕ)
       → slice_get met.hypotheses i ≡ Some h → slice_get met.entries i ≡ Some given
-      → slice_get origins (length met.rest + i) ≡ Some number
+      → slice_get steps (length met.rest + i) ≡ Some step
       → (asked : Expression) × AsksFor before stack label i asked
       × (slice_get details i
-      ≡ Some (hypothesis_asks (unwrap_or h.label []) asked number given))
+      ≡ Some (hypothesis_asks (unwrap_or h.label []) asked step given))
 
 -- the index, from 0 on, of the first symbol at which two expressions differ; none where they are
 -- the same
@@ -150,14 +152,14 @@ difference e f = Some 0
 
 -- whether they are those of a hypothesis that isn't met: it asks something else than it gets
 abbrev pub is_unmet : Detail → Bool
-is_unmet (hypothesis_asks label asked number given) = is_some (difference asked given)
+is_unmet (hypothesis_asks label asked step given) = is_some (difference asked given)
 is_unmet detail = false
 
 -- The same, those of the hypotheses that aren't met first.
 abbrev pub AreAskedInTurn : (before : List Sentence) → (stack : List Expression)
-    → (origins : List ℕ) → (label : List ℕ) → List Detail → Type 0
-AreAskedInTurn before stack origins label details =
-    (all : List Detail) × AreAsked before stack origins label all
+    → (steps : List (List ℕ)) → (label : List ℕ) → List Detail → Type 0
+AreAskedInTurn before stack steps label details =
+    (all : List Detail) × AreAsked before stack steps label all
     × (details ≡ filter is_unmet all ++ filter (λ d. not (is_unmet d)) all)
 
 -- the type codes of expressions, which are their first symbols
@@ -167,16 +169,16 @@ type_codes expressions = flat_map (take 1) expressions
 -- Of the mandatory hypotheses of the assertion with the label, where the step by it is made on this
 -- stack, whose entries these steps made: the first `$f` whose entry has another type code, and that
 -- entry, with its step; and the type codes of all.
-pub record AreTypesAsked (before : List Sentence) (stack : List Expression) (origins : List ℕ)
-    (label : List ℕ) (details : List Detail) : Type 0 where
+pub record AreTypesAsked (before : List Sentence) (stack : List Expression)
+    (steps : List (List ℕ)) (label : List ℕ) (details : List Detail) : Type 0 where
   pub met : MeetsHypotheses before stack label
   pub index : ℕ
   pub hypothesis : Sentence
   pub given : Expression
-  pub number : ℕ
+  pub step : List ℕ
   pub its : slice_get met.hypotheses index ≡ Some hypothesis
   pub entry : slice_get met.entries index ≡ Some given
-  pub origin : slice_get origins (length met.rest + index) ≡ Some number
+  pub origin : slice_get steps (length met.rest + index) ≡ Some step
   pub code : Symbol
   pub variable : Symbol
   pub typed : Types code variable hypothesis
@@ -184,7 +186,7 @@ pub record AreTypesAsked (before : List Sentence) (stack : List Expression) (ori
   pub first : (i : ℕ) (h : Sentence) (e : Expression) → i < index
       → slice_get met.hypotheses i ≡ Some h → slice_get met.entries i ≡ Some e
       → h.kind ≡ Floating → slice_get e 0 ≡ slice_get h.symbols 0
-  pub told : details ≡ type_asked (unwrap_or hypothesis.label []) code number given
+  pub told : details ≡ type_asked (unwrap_or hypothesis.label []) code step given
       ∷ types_taken (type_codes (map (λ h. h.symbols) met.hypotheses)) (type_codes met.entries)
       ∷ []
 
@@ -229,50 +231,50 @@ pub record ArePairsAsked (before : List Sentence) (rule : ProofRule) (stack : Li
 -- The facts of the step by a label that breaks the rule on this stack, whose entries these steps
 -- made, behind that label.
 abbrev pub AreStepDetails : (limit : ℕ) → (before : List Sentence) → (stack : List Expression)
-    → (origins : List ℕ) → (label : List ℕ) → ProofRule → List Detail → Type 0
-AreStepDetails limit before stack origins label P8 details =
+    → (steps : List (List ℕ)) → (label : List ℕ) → ProofRule → List Detail → Type 0
+AreStepDetails limit before stack steps label P8 details =
     (index : ℕ) × (assertion : Sentence) × (hypotheses : List Sentence)
     × Names before label index assertion hypotheses
     × (details ≡ entry_counts (length hypotheses) (length stack)
-    ∷ (hypotheses_stated hypotheses ++ entries_given origins stack))
-AreStepDetails limit before stack origins label P9 details =
-    AreTypesAsked before stack origins label details
-AreStepDetails limit before stack origins label P10 details =
-    AreAskedInTurn before stack origins label details
-AreStepDetails limit before stack origins label P11 details =
+    ∷ (hypotheses_stated hypotheses ++ entries_given steps stack))
+AreStepDetails limit before stack steps label P9 details =
+    AreTypesAsked before stack steps label details
+AreStepDetails limit before stack steps label P10 details =
+    AreAskedInTurn before stack steps label details
+AreStepDetails limit before stack steps label P11 details =
     ArePairsAsked before P11 stack label details
-AreStepDetails limit before stack origins label P12 details =
+AreStepDetails limit before stack steps label P12 details =
     ArePairsAsked before P12 stack label details
-AreStepDetails limit before stack origins label L1 details = details ≡ most_symbols limit ∷ []
-AreStepDetails limit before stack origins label rule details = details ≡ []
+AreStepDetails limit before stack steps label L1 details = details ≡ most_symbols limit ∷ []
+AreStepDetails limit before stack steps label rule details = details ≡ []
 
 -- the facts of the move that breaks the rule there, where so many trees are kept
 abbrev pub AreMoveDetails : (limit : ℕ) → (before : List Sentence) → (stack kept : List Expression)
-    → (origins : List ℕ) → Move (List ℕ) → ProofRule → List Detail → Type 0
-AreMoveDetails limit before stack kept origins (name label) rule details =
-    (others : List Detail) × AreStepDetails limit before stack origins label rule others
+    → (steps : List (List ℕ)) → Move (List ℕ) → ProofRule → List Detail → Type 0
+AreMoveDetails limit before stack kept steps (name label) rule details =
+    (others : List Detail) × AreStepDetails limit before stack steps label rule others
     × (details ≡ step_label label ∷ others)
-AreMoveDetails limit before stack kept origins (again tag) rule details =
+AreMoveDetails limit before stack kept steps (again tag) rule details =
     details ≡ mark_asked (tag + 1) (length kept) ∷ []
-AreMoveDetails limit before stack kept origins mark rule details = details ≡ []
+AreMoveDetails limit before stack kept steps mark rule details = details ≡ []
 
 -- the facts of what all moves leave on the stack, where it breaks the rule
-abbrev pub AreEndDetails : Sentence → (stack : List Expression) → (origins : List ℕ) → ProofRule
+abbrev pub AreEndDetails : Sentence → (stack : List Expression) → (steps : List (List ℕ)) → ProofRule
     → List Detail → Type 0
-AreEndDetails s stack origins P14 details =
-    (given : Expression) × (number : ℕ) × (stack ≡ given ∷ []) × (origins ≡ number ∷ [])
-    × (details ≡ end_given s.symbols number given ∷ [])
-AreEndDetails s stack origins rule details = details ≡ entries_given origins stack
+AreEndDetails s stack steps P14 details =
+    (given : Expression) × (step : List ℕ) × (stack ≡ given ∷ []) × (steps ≡ step ∷ [])
+    × (details ≡ end_given s.symbols step given ∷ [])
+AreEndDetails s stack steps rule details = details ≡ entries_given steps stack
 
 -- The facts of the place where moves stop by the rule: of the first move that is left, or of the
 -- end.
 abbrev pub AreHaltDetails : (limit : ℕ) → (before : List Sentence) → Sentence
-    → (stack kept : List Expression) → (origins : List ℕ) → (left : List (Move (List ℕ)))
+    → (stack kept : List Expression) → (steps : List (List ℕ)) → (left : List (Move (List ℕ)))
     → ProofRule → List Detail → Type 0
-AreHaltDetails limit before s stack kept origins [] rule details =
-    AreEndDetails s stack origins rule details
-AreHaltDetails limit before s stack kept origins (move ∷ more) rule details =
-    AreMoveDetails limit before stack kept origins move rule details
+AreHaltDetails limit before s stack kept steps [] rule details =
+    AreEndDetails s stack steps rule details
+AreHaltDetails limit before s stack kept steps (move ∷ more) rule details =
+    AreMoveDetails limit before stack kept steps move rule details
 
 -- the `$d` statements of these pairs, in order
 abbrev pub pairs_lacking : List (Symbol × Symbol) → List Detail
@@ -311,29 +313,32 @@ AreTokenDetails before P4 text details = details ≡ token_at_fault text ∷ []
 AreTokenDetails before P15 text details = details ≡ token_at_fault text ∷ []
 AreTokenDetails before rule text details = details ≡ []
 
--- The facts that explain this fault, in order: those of the token where a rule over the whole of
--- the proof is broken; else those of the place where the moves stop, and then those of the whole.
-abbrev pub AreDetails : Profile → (before : List Sentence) → Sentence → (tokens : List (List ℕ))
-    → ProofRule → (step : ℕ) → List Detail → Type 0
-AreDetails profile before s tokens rule step details =
+-- The facts that explain this fault of the tokens, which stand in the files, in order: those of the
+-- token where a rule over the whole of the proof is broken; else those of the place where the moves
+-- stop, where the steps that made the entries of the stack are told so, and then those of the whole.
+abbrev pub AreDetails : List PlainFile → Profile → (before : List Sentence) → Sentence
+    → (tokens : List PlainToken) → ProofRule → (step : ℕ) → List Detail → Type 0
+AreDetails files profile before s tokens rule step details =
     ((step ≡ 0) × (token : ℕ) × (byte : ℕ) × (text : List ℕ)
-    × IsWholePlace before s (judged_tokens tokens) rule token byte
-    × (slice_get tokens token ≡ Some text) × AreTokenDetails before rule text details)
-    ⊎ ((h : TokensHalt profile before s tokens (Some rule))
+    × IsWholePlace before s (judged_tokens (texts_of tokens)) rule token byte
+    × (slice_get (texts_of tokens) token ≡ Some text) × AreTokenDetails before rule text details)
+    ⊎ ((h : TokensHalt profile before s (texts_of tokens) (Some rule))
     × (step ≡ steps_in h.halts.earlier + 1)
+    × (steps : List (List ℕ)) × AllZip (IsStepText files tokens h.moves) h.halts.origins steps
     × (there : List Detail) × (whole : List Detail)
-    × AreHaltDetails (limit_of profile) before s h.halts.stack h.halts.kept h.halts.origins
-    h.halts.left rule there
+    × AreHaltDetails (limit_of profile) before s h.halts.stack h.halts.kept steps h.halts.left rule
+    there
     × AreWholeDetails (limit_of profile) before h.moves rule whole
     × (details ≡ there ++ whole))
 
 -- The facts that tell what the known prefix of an incomplete proof, which breaks no rule, leaves on
 -- the stack, and what is to be proved.
-abbrev pub AreLeftOver : Profile → (before : List Sentence) → Sentence → (tokens : List (List ℕ))
-    → List Detail → Type 0
-AreLeftOver profile before s tokens details =
-    (h : TokensHalt profile before s tokens None)
-    × (details ≡ entries_given h.halts.origins h.halts.stack
+abbrev pub AreLeftOver : List PlainFile → Profile → (before : List Sentence) → Sentence
+    → (tokens : List PlainToken) → List Detail → Type 0
+AreLeftOver files profile before s tokens details =
+    (h : TokensHalt profile before s (texts_of tokens) None)
+    × (steps : List (List ℕ)) × AllZip (IsStepText files tokens h.moves) h.halts.origins steps
+    × (details ≡ entries_given steps h.halts.stack
     ++ hypothesis_stated (unwrap_or s.label []) s.symbols ∷ [])
 
 -- ---- text
@@ -354,19 +359,19 @@ difference_line asked given (Some index) =
     ++ codes " where " ++ symbol_at asked index ++ codes " is asked\n"
 
 -- the lines of what is asked, of what a step gives instead, and of the difference
-abbrev pub but_given_text : (asked : Expression) → (number : ℕ) → (given : Expression) → List ℕ
-but_given_text asked number given =
-    expression_line asked ++ codes "  but step " ++ decimal number ++ codes " gives\n"
+abbrev pub but_given_text : (asked : Expression) → (step : List ℕ) → (given : Expression) → List ℕ
+but_given_text asked step given =
+    expression_line asked ++ codes "  but step " ++ step ++ codes ", gives\n"
     ++ expression_line given ++ difference_line asked given (difference asked given)
 
 -- the lines of what a hypothesis asks, and of what is given
-abbrev pub asks_text : (label : List ℕ) → (asked : Expression) → (number : ℕ) → (given : Expression)
-    → Option ℕ → List ℕ
-asks_text label asked number given None =
-    codes "  " ++ label ++ codes " asks, and step " ++ decimal number ++ codes " gives\n"
+abbrev pub asks_text : (label : List ℕ) → (asked : Expression) → (step : List ℕ)
+    → (given : Expression) → Option ℕ → List ℕ
+asks_text label asked step given None =
+    codes "  " ++ label ++ codes " asks, and step " ++ step ++ codes ", gives\n"
     ++ expression_line asked
-asks_text label asked number given (Some index) =
-    codes "  " ++ label ++ codes " asks\n" ++ but_given_text asked number given
+asks_text label asked step given (Some index) =
+    codes "  " ++ label ++ codes " asks\n" ++ but_given_text asked step given
 
 -- The number of a `Z`, from 1 on. That of a billionth or later one isn't told: numbers above
 -- 4,294,967,295 are read as one.
@@ -411,15 +416,15 @@ detail_text (entry_counts needed there) =
     ++ decimal there ++ codes "\n"
 detail_text (hypothesis_stated label stated) =
     codes "  " ++ label ++ codes " states\n" ++ expression_line stated
-detail_text (entry_given number given) =
-    codes "  step " ++ decimal number ++ codes " gives\n" ++ expression_line given
-detail_text (type_asked label code number given) =
-    codes "  " ++ label ++ codes " asks a " ++ code ++ codes "; step " ++ decimal number
-    ++ codes " gives" ++ symbols_text given ++ codes "\n"
+detail_text (entry_given step given) =
+    codes "  step " ++ step ++ codes ", gives\n" ++ expression_line given
+detail_text (type_asked label code step given) =
+    codes "  " ++ label ++ codes " asks a " ++ code ++ codes "; step " ++ step
+    ++ codes ", gives" ++ symbols_text given ++ codes "\n"
 detail_text (types_taken taken given) =
     codes "  takes" ++ symbols_text taken ++ codes "; gets" ++ symbols_text given ++ codes "\n"
-detail_text (hypothesis_asks label asked number given) =
-    asks_text label asked number given (difference asked given)
+detail_text (hypothesis_asks label asked step given) =
+    asks_text label asked step given (difference asked given)
 detail_text (pair_asked x y e f) =
     codes "  it asks $d " ++ x ++ codes " " ++ y ++ codes " $."
     ++ replacements_text x y e f (is_alone x e) (is_alone y f)
@@ -429,8 +434,8 @@ detail_text (step_lacks x y) =
     codes "  this step lacks: $d " ++ x ++ codes " " ++ y ++ codes " $.\n"
 detail_text (missing_pair x y) =
     codes "  the whole proof lacks: $d " ++ x ++ codes " " ++ y ++ codes " $.\n"
-detail_text (end_given expression number given) =
-    codes "  it states\n" ++ but_given_text expression number given
+detail_text (end_given expression step given) =
+    codes "  it states\n" ++ but_given_text expression step given
 detail_text (most_symbols symbols) =
     codes "  an expression may have " ++ decimal symbols ++ codes " symbols\n"
 detail_text (begun_at place) = codes "  begun: " ++ place ++ codes "\n"

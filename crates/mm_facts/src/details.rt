@@ -4,6 +4,9 @@ ghost use Rattle.std.specs.Prelude.{◌≡◌, ◌≤◌, ◌+◌, ◌++◌, ℕ
 ghost use Rattle.std.specs.Prelude.{OnOk, IfOk, IfSome, IsTrue, Some, true, ◌⊎◌};
 ghost use Rattle.std.specs.List.{sum_by};
 ghost use Rattle.mm_base.specs.MostBytes.{most_bytes};
+ghost use Rattle.mm_base.specs.Token.{plain_token, PlainToken};
+ghost use Rattle.mm_text.specs.Files.{plain_file, PlainFile};
+ghost use Rattle.mm_code.specs.Words.{texts_of};
 ghost use Rattle.mm_frame.specs.Sentence.{Sentence, IsAssertion, IsHypothesis};
 ghost use Rattle.mm_frame.specs.Active.{IsActive};
 ghost use Rattle.mm_frame.specs.Numbers.{IsNumbered};
@@ -30,7 +33,7 @@ ghost use Rattle.mm_facts.specs.Explained.{AreMoveDetails, AreHaltDetails, AreTo
 ghost use Rattle.mm_facts.specs.Explained.{AreWholeDetails, pairs_lacking};
 ghost use Rattle.mm_facts.specs.Mirror.Explaining.{IsHaltOf, AddsAtHalt, StepFacts, LabelFacts};
 ghost use Rattle.mm_facts.specs.Mirror.Explaining.{AreJudgedSteps, IsJudgedWhole, AskedFacts};
-ghost use Rattle.mm_facts.specs.Mirror.Explaining.{TypeFacts, TurnFacts};
+ghost use Rattle.mm_facts.specs.Mirror.Explaining.{TypeFacts, TurnFacts, TellsSteps};
 ghost use Rattle.mm_facts.specs.Explained.{is_parenthesis as is_parenthesis_there};
 ghost use Rattle.mm_facts.specs.Mirror.Explaining.{AreNamedPairs, DisjointFacts, IsCauseOf};
 
@@ -39,26 +42,33 @@ use crate::fact_lines::{
     push_asks_where, push_counts, push_end, push_given, push_marks, push_missing, push_most,
     push_near, push_stated, push_step, push_token, push_type_asked, push_types,
 };
+use crate::named_halt::NamedHalt;
+use crate::step_texts::named_halt;
 use crate::suggestion::Nearest;
 use crate::types::{codes_given, codes_taken, first_of_other_type};
-use mm_base::Token;
+use mm_base::{File, Token};
 use mm_distinct::{asked_by, lacking_pairs};
 use mm_frame::{Book, Frame, Hypothesis, LabelId, LabelKind, Sym};
-use mm_listing::{Halt, HaltAt, halt_of};
+use mm_listing::{Halt, HaltAt};
 use mm_places::whole_place;
 use mm_proof::{Parsed, Steps};
 use mm_step::{Profile, ProofFault, ProofRule};
 use std::alloc::{AllocError, Global};
 
 /// What each entry of the stack is, where moves stop.
-fn push_entries(out: &mut Vec<u8>, book: &Book, id: LabelId, halt: &Halt) -> Result<(), AllocError>
-    requires { (limit : ℕ) × IsHaltOf limit book.now.statements id.0 halt.now }
-    ensures { OnOk result ((limit : ℕ) → AddsAtHalt limit book.now.statements id.0 halt.now
-        (λ before s stack kept origins left details. details ≡ entries_given origins stack)
+fn push_entries(
+    out: &mut Vec<u8>,
+    book: &Book,
+    id: LabelId,
+    stop: &NamedHalt,
+) -> Result<(), AllocError>
+    requires { (limit : ℕ) × IsHaltOf limit book.now.statements id.0 stop.now.halt }
+    ensures { OnOk result ((limit : ℕ) → AddsAtHalt limit book.now.statements id.0 stop.now
+        (λ before s stack kept steps left details. details ≡ entries_given steps stack)
         out.old.items out.new.items) }
 {
-    for index in 0..halt.origins.len() {
-        push_given(out, book, halt.origins[index], halt.entry(index))?;
+    for index in 0..stop.halt.origins.len() {
+        push_given(out, book, &stop.texts[index], stop.halt.entry(index))?;
     }
     Ok(())
 }
@@ -68,14 +78,14 @@ fn push_at_end(
     out: &mut Vec<u8>,
     book: &Book,
     id: LabelId,
-    halt: &Halt,
+    stop: &NamedHalt,
     rule: ProofRule,
 ) -> Result<(), AllocError>
-    requires halt { (limit : ℕ) × IsHaltOf limit book.now.statements id.0 halt.now }
-    requires end { halt.now.at ≡ HaltAt.End }
-    requires rule { halt.now.rule ≡ Some rule }
-    ensures { OnOk result ((limit : ℕ) → AddsAtHalt limit book.now.statements id.0 halt.now
-        (λ before s stack kept origins left details. AreEndDetails s stack origins rule details)
+    requires halt { (limit : ℕ) × IsHaltOf limit book.now.statements id.0 stop.now.halt }
+    requires end { stop.now.halt.at ≡ HaltAt.End }
+    requires rule { stop.now.halt.rule ≡ Some rule }
+    ensures { OnOk result ((limit : ℕ) → AddsAtHalt limit book.now.statements id.0 stop.now
+        (λ before s stack kept steps left details. AreEndDetails s stack steps rule details)
         out.old.items out.new.items) }
 {
     match rule {
@@ -83,10 +93,10 @@ fn push_at_end(
             out,
             book,
             book.expression(id),
-            halt.origins[0],
-            halt.entry(0),
+            &stop.texts[0],
+            stop.halt.entry(0),
         ),
-        _ => push_entries(out, book, id, halt),
+        _ => push_entries(out, book, id, stop),
     }
 }
 
@@ -118,20 +128,20 @@ fn push_too_few(
     out: &mut Vec<u8>,
     book: &Book,
     id: LabelId,
-    halt: &Halt,
+    stop: &NamedHalt,
     label: LabelId,
 ) -> Result<(), AllocError>
     requires sound { IsSound book.now.statements }
-    requires halt { (limit : ℕ) × IsHaltOf limit book.now.statements id.0 halt.now }
-    requires place { halt.now.at ≡ HaltAt.Label label }
-    requires rule { halt.now.rule ≡ Some P8 }
-    ensures { OnOk result ((limit : ℕ) → AddsAtHalt limit book.now.statements id.0 halt.now
+    requires halt { (limit : ℕ) × IsHaltOf limit book.now.statements id.0 stop.now.halt }
+    requires place { stop.now.halt.at ≡ HaltAt.Label label }
+    requires rule { stop.now.halt.rule ≡ Some P8 }
+    ensures { OnOk result ((limit : ℕ) → AddsAtHalt limit book.now.statements id.0 stop.now
         (StepFacts limit P8) out.old.items out.new.items) }
 {
     let hypotheses = book.frame(label).hypotheses();
-    push_counts(out, hypotheses.len(), halt.origins.len())?;
+    push_counts(out, hypotheses.len(), stop.halt.origins.len())?;
     push_hypotheses(out, book, hypotheses)?;
-    push_entries(out, book, id, halt)
+    push_entries(out, book, id, stop)
 }
 
 /// The entries of the stack that is left from an index on.
@@ -160,24 +170,24 @@ fn push_types_asked(
     alloc: Global,
     book: &Book,
     id: LabelId,
-    halt: &Halt,
+    stop: &NamedHalt,
     label: LabelId,
 ) -> Result<(), AllocError>
     requires sound { IsSound book.now.statements }
-    requires halt { (limit : ℕ) × IsHaltOf limit book.now.statements id.0 halt.now }
-    requires place { halt.now.at ≡ HaltAt.Label label }
-    requires rule { halt.now.rule ≡ Some P9 }
-    ensures { OnOk result ((limit : ℕ) → AddsAtHalt limit book.now.statements id.0 halt.now
+    requires halt { (limit : ℕ) × IsHaltOf limit book.now.statements id.0 stop.now.halt }
+    requires place { stop.now.halt.at ≡ HaltAt.Label label }
+    requires rule { stop.now.halt.rule ≡ Some P9 }
+    ensures { OnOk result ((limit : ℕ) → AddsAtHalt limit book.now.statements id.0 stop.now
         TypeFacts out.old.items out.new.items) }
 {
     let hypotheses = book.frame(label).hypotheses();
-    let base = halt.origins.len() - hypotheses.len();
-    let entries = entries_from(alloc, halt, base)?;
+    let base = stop.halt.origins.len() - hypotheses.len();
+    let entries = entries_from(alloc, &stop.halt, base)?;
     match first_of_other_type(hypotheses, &entries) {
         Some((index, code)) => {
             let asking = book.label(hypotheses[index].id);
-            let number = halt.origins[base + index];
-            push_type_asked(out, book, asking, book.name(code), number, entries[index])?;
+            let step = &stop.texts[base + index];
+            push_type_asked(out, book, asking, book.name(code), step, entries[index])?;
             let taken = codes_taken(alloc, book, hypotheses)?;
             push_types(out, book, &taken, &codes_given(alloc, &entries)?)
         }
@@ -193,20 +203,20 @@ fn push_asked(
     alloc: Global,
     book: &Book,
     id: LabelId,
-    halt: &Halt,
+    stop: &NamedHalt,
     label: LabelId,
     unmet: bool,
 ) -> Result<(), AllocError>
     requires sound { IsSound book.now.statements }
-    requires halt { (limit : ℕ) × IsHaltOf limit book.now.statements id.0 halt.now }
-    requires place { halt.now.at ≡ HaltAt.Label label }
-    requires rule { halt.now.rule ≡ Some P10 }
-    ensures { OnOk result ((limit : ℕ) → AddsAtHalt limit book.now.statements id.0 halt.now
+    requires halt { (limit : ℕ) × IsHaltOf limit book.now.statements id.0 stop.now.halt }
+    requires place { stop.now.halt.at ≡ HaltAt.Label label }
+    requires rule { stop.now.halt.rule ≡ Some P10 }
+    ensures { OnOk result ((limit : ℕ) → AddsAtHalt limit book.now.statements id.0 stop.now
         (AskedFacts unmet) out.old.items out.new.items) }
 {
     let hypotheses = book.frame(label).hypotheses();
-    let base = halt.origins.len() - hypotheses.len();
-    let entries = entries_from(alloc, halt, base)?;
+    let base = stop.halt.origins.len() - hypotheses.len();
+    let entries = entries_from(alloc, &stop.halt, base)?;
     for index in 0..hypotheses.len() {
         let asked = asked_by(alloc, book, id, label, &entries, index)?;
         let name = book.label(hypotheses[index].id);
@@ -215,7 +225,7 @@ fn push_asked(
             book,
             name,
             &asked,
-            halt.origins[base + index],
+            &stop.texts[base + index],
             entries[index],
             unmet,
         )?;
@@ -230,18 +240,18 @@ fn push_asked_in_turn(
     alloc: Global,
     book: &Book,
     id: LabelId,
-    halt: &Halt,
+    stop: &NamedHalt,
     label: LabelId,
 ) -> Result<(), AllocError>
     requires sound { IsSound book.now.statements }
-    requires halt { (limit : ℕ) × IsHaltOf limit book.now.statements id.0 halt.now }
-    requires place { halt.now.at ≡ HaltAt.Label label }
-    requires rule { halt.now.rule ≡ Some P10 }
-    ensures { OnOk result ((limit : ℕ) → AddsAtHalt limit book.now.statements id.0 halt.now
+    requires halt { (limit : ℕ) × IsHaltOf limit book.now.statements id.0 stop.now.halt }
+    requires place { stop.now.halt.at ≡ HaltAt.Label label }
+    requires rule { stop.now.halt.rule ≡ Some P10 }
+    ensures { OnOk result ((limit : ℕ) → AddsAtHalt limit book.now.statements id.0 stop.now
         TurnFacts out.old.items out.new.items) }
 {
-    push_asked(out, alloc, book, id, halt, label, true)?;
-    push_asked(out, alloc, book, id, halt, label, false)
+    push_asked(out, alloc, book, id, stop, label, true)?;
+    push_asked(out, alloc, book, id, stop, label, false)
 }
 
 /// What is told of the mandatory pairs of an assertion.
@@ -250,21 +260,21 @@ fn push_pairs_asked(
     alloc: Global,
     book: &Book,
     id: LabelId,
-    halt: &Halt,
+    stop: &NamedHalt,
     label: LabelId,
     rule: ProofRule,
 ) -> Result<(), AllocError>
     requires sound { IsSound book.now.statements }
-    requires halt { (limit : ℕ) × IsHaltOf limit book.now.statements id.0 halt.now }
-    requires place { halt.now.at ≡ HaltAt.Label label }
-    requires broken { halt.now.rule ≡ Some rule }
+    requires halt { (limit : ℕ) × IsHaltOf limit book.now.statements id.0 stop.now.halt }
+    requires place { stop.now.halt.at ≡ HaltAt.Label label }
+    requires broken { stop.now.halt.rule ≡ Some rule }
     requires apart { (rule ≡ P11) ⊎ (rule ≡ P12) }
-    ensures { OnOk result ((limit : ℕ) → AddsAtHalt limit book.now.statements id.0 halt.now
+    ensures { OnOk result ((limit : ℕ) → AddsAtHalt limit book.now.statements id.0 stop.now
         (DisjointFacts rule) out.old.items out.new.items) }
 {
     let frame = book.frame(label);
-    let base = halt.origins.len() - frame.hypotheses().len();
-    let entries = entries_from(alloc, halt, base)?;
+    let base = stop.halt.origins.len() - frame.hypotheses().len();
+    let entries = entries_from(alloc, &stop.halt, base)?;
     push_disjoint_pairs(out, alloc, book, id, rule, &entries, frame.pairs())
 }
 
@@ -275,22 +285,22 @@ fn push_step_details(
     book: &Book,
     id: LabelId,
     profile: Profile,
-    halt: &Halt,
+    stop: &NamedHalt,
     step: (LabelId, ProofRule),
 ) -> Result<(), AllocError>
     requires sound { IsSound book.now.statements }
-    requires halt { IsHaltOf (limit_of profile) book.now.statements id.0 halt.now }
-    requires place { halt.now.at ≡ HaltAt.Label step.0 }
-    requires broken { halt.now.rule ≡ Some step.1 }
-    ensures { OnOk result (AddsAtHalt (limit_of profile) book.now.statements id.0 halt.now
+    requires halt { IsHaltOf (limit_of profile) book.now.statements id.0 stop.now.halt }
+    requires place { stop.now.halt.at ≡ HaltAt.Label step.0 }
+    requires broken { stop.now.halt.rule ≡ Some step.1 }
+    ensures { OnOk result (AddsAtHalt (limit_of profile) book.now.statements id.0 stop.now
         (StepFacts (limit_of profile) step.1) out.old.items out.new.items) }
 {
     match step.1 {
-        ProofRule::P8 => push_too_few(out, book, id, halt, step.0),
-        ProofRule::P9 => push_types_asked(out, alloc, book, id, halt, step.0),
-        ProofRule::P10 => push_asked_in_turn(out, alloc, book, id, halt, step.0),
-        ProofRule::P11 => push_pairs_asked(out, alloc, book, id, halt, step.0, step.1),
-        ProofRule::P12 => push_pairs_asked(out, alloc, book, id, halt, step.0, step.1),
+        ProofRule::P8 => push_too_few(out, book, id, stop, step.0),
+        ProofRule::P9 => push_types_asked(out, alloc, book, id, stop, step.0),
+        ProofRule::P10 => push_asked_in_turn(out, alloc, book, id, stop, step.0),
+        ProofRule::P11 => push_pairs_asked(out, alloc, book, id, stop, step.0, step.1),
+        ProofRule::P12 => push_pairs_asked(out, alloc, book, id, stop, step.0, step.1),
         ProofRule::L1 => push_most(out, profile.limit()),
         _ => Ok(()),
     }
@@ -303,18 +313,18 @@ fn push_at_label(
     book: &Book,
     id: LabelId,
     profile: Profile,
-    halt: &Halt,
+    stop: &NamedHalt,
     step: (LabelId, ProofRule),
 ) -> Result<(), AllocError>
     requires sound { IsSound book.now.statements }
-    requires halt { IsHaltOf (limit_of profile) book.now.statements id.0 halt.now }
-    requires place { halt.now.at ≡ HaltAt.Label step.0 }
-    requires broken { halt.now.rule ≡ Some step.1 }
-    ensures { OnOk result (AddsAtHalt (limit_of profile) book.now.statements id.0 halt.now
+    requires halt { IsHaltOf (limit_of profile) book.now.statements id.0 stop.now.halt }
+    requires place { stop.now.halt.at ≡ HaltAt.Label step.0 }
+    requires broken { stop.now.halt.rule ≡ Some step.1 }
+    ensures { OnOk result (AddsAtHalt (limit_of profile) book.now.statements id.0 stop.now
         (LabelFacts (limit_of profile) step.1) out.old.items out.new.items) }
 {
     push_step(out, book.label(step.0))?;
-    push_step_details(out, alloc, book, id, profile, halt, step)
+    push_step_details(out, alloc, book, id, profile, stop, step)
 }
 
 /// The facts of the place where moves stop by the rule.
@@ -324,21 +334,21 @@ fn push_halt(
     book: &Book,
     id: LabelId,
     profile: Profile,
-    halt: &Halt,
+    stop: &NamedHalt,
     rule: ProofRule,
 ) -> Result<(), AllocError>
     requires sound { IsSound book.now.statements }
-    requires halt { IsHaltOf (limit_of profile) book.now.statements id.0 halt.now }
-    requires broken { halt.now.rule ≡ Some rule }
-    ensures { OnOk result (AddsAtHalt (limit_of profile) book.now.statements id.0 halt.now
-        (λ before s stack kept origins left details.
-        AreHaltDetails (limit_of profile) before s stack kept origins left rule details)
+    requires halt { IsHaltOf (limit_of profile) book.now.statements id.0 stop.now.halt }
+    requires broken { stop.now.halt.rule ≡ Some rule }
+    ensures { OnOk result (AddsAtHalt (limit_of profile) book.now.statements id.0 stop.now
+        (λ before s stack kept steps left details.
+        AreHaltDetails (limit_of profile) before s stack kept steps left rule details)
         out.old.items out.new.items) }
 {
-    match halt.at {
-        HaltAt::End => push_at_end(out, book, id, halt, rule),
-        HaltAt::Label(label) => push_at_label(out, alloc, book, id, profile, halt, (label, rule)),
-        HaltAt::Tag(tag) => push_marks(out, tag, halt.passed - halt.steps),
+    match stop.halt.at {
+        HaltAt::End => push_at_end(out, book, id, stop, rule),
+        HaltAt::Label(label) => push_at_label(out, alloc, book, id, profile, stop, (label, rule)),
+        HaltAt::Tag(tag) => push_marks(out, tag, stop.halt.passed - stop.halt.steps),
         HaltAt::Mark => Ok(()),
     }
 }
@@ -425,7 +435,7 @@ pub enum Cause<'t> {
     /// The moves of the judged tokens, and where they stop.
     Moves {
         steps: Steps,
-        halt: Halt,
+        stop: NamedHalt,
     },
 }
 
@@ -433,6 +443,7 @@ pub enum Cause<'t> {
 /// rule at the step.
 pub fn cause_of<'t>(
     alloc: Global,
+    files: &[File],
     profile: Profile,
     book: &Book,
     id: LabelId,
@@ -444,8 +455,10 @@ pub fn cause_of<'t>(
     requires fault { OfProof book.now.statements id.0 (λ index s.
         IsTokensFault profile (take index book.now.statements) s (token_texts tokens.now)
         fault.0 fault.1) }
-    ensures { IfOk result
+    ensures cause { IfOk result
         (IsCauseOf profile book.now.statements id.0 (token_texts tokens.now) fault.0 fault.1) }
+    ensures told { IfOk result (TellsSteps (map plain_file files.now) (map plain_token tokens.now)
+        book.now.statements id.0) }
 {
     // The frame of the `$p` tells that its book is sound.
     let _own = book.frame(id);
@@ -458,8 +471,8 @@ pub fn cause_of<'t>(
         });
     }
     let steps = steps_of(alloc, profile, book, id, tokens)?;
-    let halt = halt_of(alloc, book, id, &steps)?;
-    Ok(Cause::Moves { steps, halt })
+    let stop = named_halt(alloc, files, book, id, tokens, &steps)?;
+    Ok(Cause::Moves { steps, stop })
 }
 
 /// Whether a labelled statement is an assertion, or a hypothesis that is active at a frame's index.
@@ -565,16 +578,17 @@ pub fn push_cause(
     requires proof { (index : ℕ) × (s : Sentence) × IsProofNumber book.now.statements id.0 index s }
     requires cause { (tokens : List (List ℕ)) × (step : ℕ)
         × IsCauseOf profile book.now.statements id.0 tokens rule step cause.now }
-    ensures { OnOk result ((tokens : List (List ℕ)) (step : ℕ)
-        → IsCauseOf profile book.now.statements id.0 tokens rule step cause.now
+    ensures { OnOk result ((files : List PlainFile) (tokens : List PlainToken) (step : ℕ)
+        → IsCauseOf profile book.now.statements id.0 (texts_of tokens) rule step cause.now
+        → TellsSteps files tokens book.now.statements id.0 cause.now
         → OfProof book.now.statements id.0 (λ index s. (details : List Detail)
-        × AreDetails profile (take index book.now.statements) s tokens rule step details
+        × AreDetails files profile (take index book.now.statements) s tokens rule step details
         × (out.new.items ≡ out.old.items ++ details_text details))) }
 {
     match cause {
         Cause::Token { text, .. } => push_at_token(out, alloc, book, id, rule, text),
-        Cause::Moves { steps, halt } => {
-            push_halt(out, alloc, book, id, profile, halt, rule)?;
+        Cause::Moves { steps, stop } => {
+            push_halt(out, alloc, book, id, profile, stop, rule)?;
             push_whole(out, alloc, book, id, steps, rule)
         }
     }
@@ -584,6 +598,7 @@ pub fn push_cause(
 pub fn push_left_over(
     out: &mut Vec<u8>,
     alloc: Global,
+    files: &[File],
     profile: Profile,
     book: &Book,
     id: LabelId,
@@ -595,13 +610,14 @@ pub fn push_left_over(
     requires allowed { OfProof book.now.statements id.0 (λ index s.
         IsPrefixAllowedUnder profile (take index book.now.statements) s (token_texts tokens.now)) }
     ensures { OnOk result (OfProof book.now.statements id.0 (λ index s. (details : List Detail)
-        × AreLeftOver profile (take index book.now.statements) s (token_texts tokens.now) details
+        × AreLeftOver (map plain_file files.now) profile (take index book.now.statements) s
+        (map plain_token tokens.now) details
         × (out.new.items ≡ out.old.items ++ details_text details))) }
 {
     // The frame of the `$p` tells that its book is sound.
     let _own = book.frame(id);
     let steps = steps_of(alloc, profile, book, id, tokens)?;
-    let halt = halt_of(alloc, book, id, &steps)?;
-    push_entries(out, book, id, &halt)?;
+    let stop = named_halt(alloc, files, book, id, tokens, &steps)?;
+    push_entries(out, book, id, &stop)?;
     push_stated(out, book, book.label(id), book.expression(id))
 }

@@ -168,16 +168,16 @@ pub(crate) fn push_stated(
 pub(crate) fn push_given(
     out: &mut Vec<u8>,
     book: &Book,
-    number: usize,
+    step: &[u8],
     given: &[Sym],
 ) -> Result<(), AllocError>
     requires { AllByRecursion (λ n. n < length (symbols_of book.now.statements))
         (numbers_in given.now) }
     ensures { OnOk result (out.new.items ≡ out.old.items
-        ++ detail_text (entry_given number
+        ++ detail_text (entry_given step.now
         (labels_at (symbols_of book.now.statements) (numbers_in given.now)))) }
 {
-    push_number_between(out, b"  step ", number, b" gives\n")?;
+    push_between(out, b"  step ", step, b", gives\n")?;
     push_expression(out, book, given)
 }
 
@@ -250,7 +250,7 @@ fn push_but_given(
     out: &mut Vec<u8>,
     book: &Book,
     asked: &[Sym],
-    number: usize,
+    step: &[u8],
     given: &[Sym],
 ) -> Result<(), AllocError>
     requires asked { AllByRecursion (λ n. n < length (symbols_of book.now.statements))
@@ -259,10 +259,10 @@ fn push_but_given(
         (numbers_in given.now) }
     ensures { OnOk result (out.new.items ≡ out.old.items
         ++ but_given_text (labels_at (symbols_of book.now.statements) (numbers_in asked.now))
-        number (labels_at (symbols_of book.now.statements) (numbers_in given.now))) }
+        step.now (labels_at (symbols_of book.now.statements) (numbers_in given.now))) }
 {
     push_expression(out, book, asked)?;
-    push_number_between(out, b"  but step ", number, b" gives\n")?;
+    push_between(out, b"  but step ", step, b", gives\n")?;
     push_expression(out, book, given)?;
     match difference(asked, given) {
         Some(index) => push_difference(out, book, asked, given, index),
@@ -276,7 +276,7 @@ fn push_asks(
     book: &Book,
     label: &[u8],
     asked: &[Sym],
-    number: usize,
+    step: &[u8],
     given: &[Sym],
 ) -> Result<(), AllocError>
     requires asked { AllByRecursion (λ n. n < length (symbols_of book.now.statements))
@@ -285,17 +285,17 @@ fn push_asks(
         (numbers_in given.now) }
     ensures { OnOk result (out.new.items ≡ out.old.items
         ++ detail_text (hypothesis_asks label.now
-        (labels_at (symbols_of book.now.statements) (numbers_in asked.now)) number
+        (labels_at (symbols_of book.now.statements) (numbers_in asked.now)) step.now
         (labels_at (symbols_of book.now.statements) (numbers_in given.now)))) }
 {
     match difference(asked, given) {
         Some(_) => {
             push_between(out, b"  ", label, b" asks\n")?;
-            push_but_given(out, book, asked, number, given)
+            push_but_given(out, book, asked, step, given)
         }
         None => {
             push_between(out, b"  ", label, b" asks, and step ")?;
-            push_number_between(out, b"", number, b" gives\n")?;
+            push_between(out, b"", step, b", gives\n")?;
             push_expression(out, book, asked)
         }
     }
@@ -307,8 +307,8 @@ fn is_wanted(unmet: bool, book: &Book, asked: &[Sym], given: &[Sym]) -> bool
         (numbers_in asked.now) }
     requires given { AllByRecursion (λ n. n < length (symbols_of book.now.statements))
         (numbers_in given.now) }
-    ensures { (label : List ℕ) (number : ℕ) → result ≡ is_told unmet (hypothesis_asks label
-        (labels_at (symbols_of book.now.statements) (numbers_in asked.now)) number
+    ensures { (label step : List ℕ) → result ≡ is_told unmet (hypothesis_asks label
+        (labels_at (symbols_of book.now.statements) (numbers_in asked.now)) step
         (labels_at (symbols_of book.now.statements) (numbers_in given.now))) }
 {
     let differ = difference(asked, given).is_some();
@@ -321,7 +321,7 @@ pub(crate) fn push_asks_where(
     book: &Book,
     label: &[u8],
     asked: &[Sym],
-    number: usize,
+    step: &[u8],
     given: &[Sym],
     unmet: bool,
 ) -> Result<(), AllocError>
@@ -331,11 +331,11 @@ pub(crate) fn push_asks_where(
         (numbers_in given.now) }
     ensures { OnOk result (out.new.items ≡ out.old.items
         ++ details_text (filter (is_told unmet) (hypothesis_asks label.now
-        (labels_at (symbols_of book.now.statements) (numbers_in asked.now)) number
+        (labels_at (symbols_of book.now.statements) (numbers_in asked.now)) step.now
         (labels_at (symbols_of book.now.statements) (numbers_in given.now)) ∷ []))) }
 {
     if is_wanted(unmet, book, asked, given) {
-        return push_asks(out, book, label, asked, number, given);
+        return push_asks(out, book, label, asked, step, given);
     }
     Ok(())
 }
@@ -347,18 +347,18 @@ pub(crate) fn push_type_asked(
     book: &Book,
     label: &[u8],
     code: &[u8],
-    number: usize,
+    step: &[u8],
     given: &[Sym],
 ) -> Result<(), AllocError>
     requires { AllByRecursion (λ n. n < length (symbols_of book.now.statements))
         (numbers_in given.now) }
     ensures { OnOk result (out.new.items ≡ out.old.items
-        ++ detail_text (type_asked label.now code.now number
+        ++ detail_text (type_asked label.now code.now step.now
         (labels_at (symbols_of book.now.statements) (numbers_in given.now)))) }
 {
     push_between(out, b"  ", label, b" asks a ")?;
     push_between(out, b"", code, b"; step ")?;
-    push_number_between(out, b"", number, b" gives")?;
+    push_between(out, b"", step, b", gives")?;
     push_symbols(out, book, given)?;
     out.push(b'\n')?;
     Ok(())
@@ -395,7 +395,7 @@ pub(crate) fn push_end(
     out: &mut Vec<u8>,
     book: &Book,
     stated: &[Sym],
-    number: usize,
+    step: &[u8],
     given: &[Sym],
 ) -> Result<(), AllocError>
     requires stated { AllByRecursion (λ n. n < length (symbols_of book.now.statements))
@@ -404,11 +404,11 @@ pub(crate) fn push_end(
         (numbers_in given.now) }
     ensures { OnOk result (out.new.items ≡ out.old.items
         ++ detail_text (end_given
-        (labels_at (symbols_of book.now.statements) (numbers_in stated.now)) number
+        (labels_at (symbols_of book.now.statements) (numbers_in stated.now)) step.now
         (labels_at (symbols_of book.now.statements) (numbers_in given.now)))) }
 {
     out.extend_from_slice(b"  it states\n")?;
-    push_but_given(out, book, stated, number, given)
+    push_but_given(out, book, stated, step, given)
 }
 
 /// The variables that both have.

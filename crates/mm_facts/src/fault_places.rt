@@ -22,7 +22,7 @@ use mm_listing::{Halt, HaltAt};
 use mm_places::move_place;
 
 /// The position of a byte of one of the tokens.
-fn position_of(placed: &[Token], place: (usize, usize)) -> usize
+pub(crate) fn position_of(placed: &[Token], place: (usize, usize)) -> usize
     requires token { place.0 < length placed.now }
     requires byte { place.1 ≤ most_bytes }
     ensures { IsPosition (map plain_token placed.now) place.0 place.1 result }
@@ -64,7 +64,7 @@ pub fn place_among(tokens: &[Token], end: usize, cause: &Cause) -> usize
 {
     match cause {
         Cause::Token { index, byte, .. } => position_of(tokens, (*index, *byte)),
-        Cause::Moves { halt, .. } => stop_place(tokens, end, halt),
+        Cause::Moves { stop, .. } => stop_place(tokens, end, &stop.halt),
     }
 }
 

@@ -25,7 +25,7 @@ use Rattle.mm_verdict.specs.Alone.{BreaksTokens, HasProofTokens}
 use Rattle.mm_laws.specs.AloneLaws.{OwnProofIsTriedAlike, TellAlike}
 use Rattle.mm_facts.specs.Explained.{IsTokensFault}
 use Rattle.mm_check.specs.Reply.{IsKnownReply}
-use Rattle.mm_explain.specs.Reply.{IsTokensReply, IsTriedPrefix}
+use Rattle.mm_explain.specs.Reply.{IsTokensReply}
 use Rattle.mm_rules.specs.Verdict.{proof_of, sentences}
 use Rattle.mm_rules.proofs.Judgements.JudgedProofs.{prefix_of}
 use Rattle.mm_verdict.proofs.Verdicts.OneVerdict.{formed_before}
@@ -99,11 +99,7 @@ module _ (files : List PlainFile) (before : List PlainStatement) (s : PlainState
   tokens_alike (inr (inl t)) (inl (whole, proved, listed, known_ends)) =
       absurd (cc (t.incomplete, same, whole))
   tokens_alike (inr (inl t)) (inr (inl k)) =
-      inr (inl (
-        subst
-            (λ ts. IsTriedPrefix (sentences before) (sentence_of s) ts tried tried_status) same t,
-        k,
-      ))
+      inr (inl (t, k))
   tokens_alike (inr (inl t)) (inr (inr k)) =
       absurd (known_faultless (sentences before) (sentence_of s) (proof_of s) meant formed
       (subst (λ ts. is_incomplete ts ≡ true) same t.incomplete)

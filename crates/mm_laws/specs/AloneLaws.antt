@@ -20,8 +20,8 @@ abbrev pub TellAlike : List PlainFile → (before : List PlainStatement) → Pla
 TellAlike files before s proof tried tried_status known known_status =
     ((tried ≡ line_with (codes "proof") []) × (tried_status ≡ 0)
     × IsListingText (sentences before) (sentence_of s) (proof_of s) known × (known_status ≡ 0))
-    ⊎ ((IsTriedPrefix (sentences before) (sentence_of s) (proof_of s) tried tried_status
-    × IsCheckedPrefix (sentences before) (sentence_of s) (proof_of s) known known_status)
+    ⊎ ((IsTriedPrefix proof (sentences before) (sentence_of s) tried tried_status
+    × IsCheckedPrefix files (sentences before) (sentence_of s) s.proof known known_status)
     ⊎ ((t : IsTriedFault proof (sentences before) (sentence_of s) tried tried_status)
     × (k : IsKnownFault files before s known known_status)
     × (t.rule ≡ k.rule) × (t.step ≡ k.step)))

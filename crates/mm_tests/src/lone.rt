@@ -128,7 +128,7 @@ th.txt:2:2: P8: the stack has fewer entries than the step takes, at step 2
     term t
   tr states
     term r
-  step 1 gives
+  step 1, tze at 1:1, gives
     term 0
 ",
             status: 1,
@@ -183,9 +183,9 @@ th.txt:2:5: P4: a byte of the letters isn't one of A to Z
             files: &[(b"first.mm", &[Text(FIRST)])],
             reply: b"text P13 5
 th.txt:3:2: P13: the proof doesn't leave exactly one entry, at step 5
-  step 3 gives
+  step 3, tpl at 1:9, gives
     term ( 0 + 0 )
-  step 4 gives
+  step 4, tze at 2:2, gives
     term 0
 ",
             status: 1,
@@ -220,7 +220,7 @@ th.txt:1:1: P13: the proof doesn't leave exactly one entry, at step 1
             name: "the steps of a text before an unknown one pass",
             files: &[(b"first.mm", &[Text(FIRST)])],
             reply: b"text A3 0
-  step 1 gives
+  step 1, tze at 1:1, gives
     term 0
   th states
     term ( 0 + 0 )
@@ -423,7 +423,7 @@ no h.mm 8 th P14 2
 h.mm:9:3: P14: the proof proves something else than is stated, in the proof of th, at step 2
   it states
     term ( 0 + 0 )
-  but step 1 gives
+  but step 1, tze at 8:25, gives
     term 0
   they differ at symbol 2: 0 where ( is asked
 ",

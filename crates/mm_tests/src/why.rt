@@ -233,7 +233,7 @@ and 2 more, which mm faults lists
                     Text(b"p2 $p a a $= ( one ) ZA $.\n"),
                     Text(b"p3 $p a a $= ( one two ) A Z BC UF? $.\n"),
                     Text(b"p4 $p a a $= two $.\np5 $p a a $= one one\n  bad ? $.\n"),
-                    Text(b"p6 $p a a $= one one $.\np7 $p a b $= ( one ) A $.\n"),
+                    Text(b"p6 $p a a $= ( one ) AZB $.\np7 $p a b $= ( one ) A $.\n"),
                     Text(b"p8 $p a a $= ( one ) AZYYYYYYYYYYYYA $.\n"),
                 ],
             )],
@@ -253,18 +253,18 @@ f.mm:9:3: P10: an entry isn't what its hypothesis asks, in the proof of p5, at s
   step: bad
   e asks
     a b
-  but step 2 gives
+  but step 2, one at 8:18, gives
     a a
   they differ at symbol 2: a where b is asked
-f.mm:10:22: P13: the proof doesn't leave exactly one entry, in the proof of p6, at step 3
-  step 1 gives
+f.mm:10:26: P13: the proof doesn't leave exactly one entry, in the proof of p6, at step 3
+  step 1, one at 10:22, gives
     a a
-  step 2 gives
+  step 2, @1 at 10:24, gives
     a a
 f.mm:11:24: P14: the proof proves something else than is stated, in the proof of p7, at step 2
   it states
     a b
-  but step 1 gives
+  but step 1, one at 11:22, gives
     a a
   they differ at symbol 2: a where b is asked
 f.mm:12:36: P6: a number exceeds those of hypotheses, listed labels and tags, \

@@ -100,7 +100,7 @@ in the proof of p8, at step 1
 f.mm:8:25: P9: an entry has another type than its hypothesis asks, \
 in the proof of p9, at step 3
   step: two
-  yy asks a a; step 2 gives |- y
+  yy asks a a; step 2, m2 at 8:22, gives |- y
   takes a a; gets a |-
   the theorem's hypotheses
     f.mm:2:1 zz
@@ -111,10 +111,10 @@ f.mm:9:24: P10: an entry isn't what its hypothesis asks, in the proof of p10, at
   step: mp
   e1 asks
     |- x
-  but step 2 gives
+  but step 2, m2 at 9:21, gives
     |- y
   they differ at symbol 2: y where x is asked
-  zz asks, and step 1 gives
+  zz asks, and step 1, zz at 9:18, gives
     a x
   the theorem's hypotheses
     f.mm:2:1 zz
@@ -122,9 +122,9 @@ f.mm:9:24: P10: an entry isn't what its hypothesis asks, in the proof of p10, at
     f.mm:4:4 m2
     f.mm:6:3 m0
 f.mm:11:22: P13: the proof doesn't leave exactly one entry, in the proof of p13, at step 3
-  step 1 gives
+  step 1, aa at 11:16, gives
     a z
-  step 2 gives
+  step 2, aa at 11:19, gives
     a z
   the theorem's hypotheses
     f.mm:2:27 aa
@@ -132,7 +132,7 @@ f.mm:12:22: P14: the proof proves something else than is stated, \
 in the proof of p14, at step 3
   it states
     |- z
-  but step 2 gives
+  but step 2, ax at 12:19, gives
     |- x
   they differ at symbol 2: x where z is asked
   the theorem's hypotheses
@@ -141,7 +141,7 @@ f.mm:13:22: P14: the proof proves something else than is stated, \
 in the proof of q14, at step 3
   it states
     |- a
-  but step 2 gives
+  but step 2, ax at 13:19, gives
     |- z
   they differ at symbol 2: z where a is asked
 f.mm:14:19: P6: a number exceeds those of hypotheses, listed labels and tags, \
@@ -170,9 +170,9 @@ in the proof of p6, at step 1
             ],
             reply: b"f.mm:4:15: P13: the proof doesn't leave exactly one entry, \
 in the proof of q, at step 3
-  step 1 gives
+  step 1, c at 4:11, gives
     a
-  step 2 gives
+  step 2, c at 4:13, gives
     a
   the theorem's hypotheses
     g.mm:1:2 c

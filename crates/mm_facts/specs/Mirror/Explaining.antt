@@ -32,9 +32,37 @@ use Rattle.mm_facts.specs.Explained.{ArePairDetails, ArePairsAsked, IsTokensFaul
 use Rattle.mm_facts.specs.Explained.{AreAskedInTurn, AreTypesAsked}
 use Rattle.mm_facts.specs.declared.details.Cause.{Cause}
 use Rattle.mm_facts.specs.declared.details.Cause.TheVariants as cause
+use Rattle.mm_facts.specs.declared.named_halt.NamedHalt.{NamedHalt}
+use Rattle.mm_facts.specs.StepTexts.{TellsMove, IsStepText}
+use Rattle.mm_base.specs.Token.{PlainToken}
+use Rattle.mm_base.specs.MostBytes.{most_bytes}
+use Rattle.mm_code.specs.Words.{texts_of}
+use Rattle.mm_code.specs.declared.code.Code.{Code}
+use Rattle.mm_code.specs.declared.code.Code.TheVariants as codes
+use Rattle.mm_places.specs.Places.{IsMovePlace}
+use Rattle.mm_text.specs.Files.{PlainFile}
 use Rattle.std.specs.List.{AllZip, AllByRecursion, flat_map}
 use Rattle.mm_frame.specs.declared.distinct.DistinctPair.{DistinctPair}
 use Rattle.mm_rules.specs.Mirror.Explaining.{named_pairs}
+
+-- the index, where the code there is that of a step, not of a mark
+abbrev pub step_index : (index : ℕ) → Code → List ℕ
+step_index index (codes.Number number) = index ∷ []
+step_index index codes.Tag = []
+
+-- those of the codes from an index on
+abbrev pub step_indices_from : (index : ℕ) → List Code → List ℕ
+step_indices_from index [] = []
+step_indices_from index (code ∷ said) = step_index index code ++ step_indices_from (index + 1) said
+
+-- the move with an index stands at a byte of one of the tokens
+abbrev pub IsMoveAt : List PlainToken → (index token byte : ℕ) → Type 0
+IsMoveAt tokens index token byte =
+    IsMovePlace (texts_of tokens) index token byte × (token < length tokens) × (byte ≤ most_bytes)
+
+-- what tells the steps that made the entries of the stack
+abbrev pub told_steps : NamedHalt → List (List ℕ)
+told_steps stop = map (λ t. t.items) stop.texts.items
 
 -- the moves of a proof, or of a prefix of one, of the `$p` with the number stop so
 pub record IsHaltOf (limit : ℕ) (statements : List Sentence) (id : ℕ) (halt : Halt) : Type 0 where
@@ -70,10 +98,10 @@ Causes profile statements id tokens rule step (cause.Token token byte text) =
     (step ≡ 0) × OfProof statements id
     (λ index s. IsWholePlace (take index statements) s (judged_tokens tokens) rule token byte)
     × (slice_get tokens token ≡ Some text.now) × (byte ≤ length text.now)
-Causes profile statements id tokens rule step (cause.Moves steps halt) =
+Causes profile statements id tokens rule step (cause.Moves steps stop) =
     (step ≢ 0) × AreJudgedSteps profile statements id tokens steps
     × OfMoves statements id steps.moves (λ index s moves. HaltsProof (limit_of steps.profile)
-    statements (take index statements) s steps.prefix moves halt)
+    statements (take index statements) s steps.prefix moves stop.halt)
 
 -- That is the cause of the first fault of the tokens, as the proof of the `$p` with the number.
 pub record IsCauseOf (profile : Profile) (statements : List Sentence) (id : ℕ)
@@ -82,6 +110,21 @@ pub record IsCauseOf (profile : Profile) (statements : List Sentence) (id : ℕ)
   pub fault : OfProof statements id
       (λ index s. IsTokensFault profile (take index statements) s tokens rule step)
   pub causes : Causes profile statements id tokens rule step it
+
+-- The texts tell the steps that made the entries of the stack, where moves, which the tokens in the
+-- files say, stop so.
+abbrev pub AreStepTexts : List PlainFile → List PlainToken → List Sentence → (id : ℕ)
+    → List (Move ℕ) → NamedHalt → Type 0
+AreStepTexts files tokens statements id steps stop = OfMoves statements id steps
+    (λ index s moves.
+    AllZip (IsStepText files tokens moves) stop.halt.origins.items (told_steps stop))
+
+-- those of the cause do
+abbrev pub TellsSteps : List PlainFile → List PlainToken → List Sentence → (id : ℕ) → Cause
+    → Type 0
+TellsSteps files tokens statements id (cause.Token token byte text) = Unit {0}
+TellsSteps files tokens statements id (cause.Moves steps stop) =
+    AreStepTexts files tokens statements id steps.moves stop
 
 -- moves that the judged ones of the tokens say stop so
 abbrev pub StopsIn : (tokens : List (List ℕ)) → Halt → Type 0
@@ -163,34 +206,34 @@ AddsPairs statements id rule entries pairs old new = OfProof statements id (λ i
     × (new ≡ old ++ details_text (flat_map (λ own. own) told)))
 
 -- what facts are told where moves stop: of the statements before, the statement, the stack, the
--- kept trees, the origins of the stack and the moves that are left
+-- kept trees, what tells the steps that made the stack, and the moves that are left
 abbrev pub HaltFacts : Type 1
 HaltFacts =
-    (before : List Sentence) → Sentence → (stack kept : List Expression) → (origins : List ℕ)
+    (before : List Sentence) → Sentence → (stack kept : List Expression) → (steps : List (List ℕ))
     → (left : List (Move (List ℕ))) → List Detail → Type 0
 
 -- Wherever the moves of the `$p` with the number stop so, the text of such facts was added.
-abbrev pub AddsAtHalt : (limit : ℕ) → List Sentence → (id : ℕ) → Halt → HaltFacts
+abbrev pub AddsAtHalt : (limit : ℕ) → List Sentence → (id : ℕ) → NamedHalt → HaltFacts
     → (old new : List ℕ) → Type 0
-AddsAtHalt limit statements id halt Facts old new =
+AddsAtHalt limit statements id stop Facts old new =
     (index : ℕ) (s : Sentence) (prefix : Bool) (moves : List (Move (List ℕ)))
     → IsProofNumber statements id index s
-    → (h : HaltsProof limit statements (take index statements) s prefix moves halt)
+    → (h : HaltsProof limit statements (take index statements) s prefix moves stop.halt)
     → (details : List Detail)
-    × Facts (take index statements) s h.there.stack h.there.kept h.there.origins h.there.left details
-    × (new ≡ old ++ details_text details)
+    × Facts (take index statements) s h.there.stack h.there.kept (told_steps stop) h.there.left
+    details × (new ≡ old ++ details_text details)
 
 -- the facts of the step by a label that breaks the rule, behind that label
 abbrev pub StepFacts : (limit : ℕ) → ProofRule → HaltFacts
-StepFacts limit rule before s stack kept origins left details =
+StepFacts limit rule before s stack kept steps left details =
     (label : List ℕ) × (more : List (Move (List ℕ))) × (left ≡ name label ∷ more)
-    × AreStepDetails limit before stack origins label rule details
+    × AreStepDetails limit before stack steps label rule details
 
 -- and those with it
 abbrev pub LabelFacts : (limit : ℕ) → ProofRule → HaltFacts
-LabelFacts limit rule before s stack kept origins left details =
+LabelFacts limit rule before s stack kept steps left details =
     (label : List ℕ) × (more : List (Move (List ℕ))) × (left ≡ name label ∷ more)
-    × AreMoveDetails limit before stack kept origins (name label) rule details
+    × AreMoveDetails limit before stack kept steps (name label) rule details
 
 -- whether the facts of a hypothesis are told, where those that aren't met are, or where the others
 -- are
@@ -200,22 +243,22 @@ is_told false detail = not (is_unmet detail)
 
 -- what the hypotheses of the assertion ask that aren't met, or the others
 abbrev pub AskedFacts : (unmet : Bool) → HaltFacts
-AskedFacts unmet before s stack kept origins left details =
+AskedFacts unmet before s stack kept steps left details =
     (label : List ℕ) × (more : List (Move (List ℕ))) × (left ≡ name label ∷ more)
-    × (all : List Detail) × AreAsked before stack origins label all
+    × (all : List Detail) × AreAsked before stack steps label all
     × (details ≡ filter (is_told unmet) all)
 
 -- what all of them ask, those first that aren't met
 abbrev pub TurnFacts : HaltFacts
-TurnFacts before s stack kept origins left details =
+TurnFacts before s stack kept steps left details =
     (label : List ℕ) × (more : List (Move (List ℕ))) × (left ≡ name label ∷ more)
-    × AreAskedInTurn before stack origins label details
+    × AreAskedInTurn before stack steps label details
 
 -- which types they ask for
 abbrev pub TypeFacts : HaltFacts
-TypeFacts before s stack kept origins left details =
+TypeFacts before s stack kept steps left details =
     (label : List ℕ) × (more : List (Move (List ℕ))) × (left ≡ name label ∷ more)
-    × AreTypesAsked before stack origins label details
+    × AreTypesAsked before stack steps label details
 
 -- the numbers begin with the type code, if there is one
 abbrev pub HasOwnCode : Option (Sym × Sym) → (numbers : List ℕ) → Type 0
@@ -245,22 +288,21 @@ pub record IsFirstOfOtherCode (hypotheses : List Hypothesis) (entries : List (Li
 
 -- what its mandatory pairs ask
 abbrev pub DisjointFacts : ProofRule → HaltFacts
-DisjointFacts rule before s stack kept origins left details =
+DisjointFacts rule before s stack kept steps left details =
     (label : List ℕ) × (more : List (Move (List ℕ))) × (left ≡ name label ∷ more)
     × ArePairsAsked before rule stack label details
 
 -- What so many hypotheses of the assertion ask was added, in order, of those that aren't met, or of
 -- the others.
 pub record AskedSoFar (unmet : Bool) (before : List Sentence) (stack : List Expression)
-    (origins : List ℕ)
-    (label : List ℕ) (m : MeetsHypotheses before stack label) (count : ℕ)
+    (steps : List (List ℕ)) (label : List ℕ) (m : MeetsHypotheses before stack label) (count : ℕ)
     (old new : List ℕ) : Type 0 where
   pub details : List Detail
   pub told : new ≡ old ++ details_text (filter (is_told unmet) details)
   pub counted : length details ≡ count
-  pub each : (i : ℕ) (h : Sentence) (given : Expression) (number : ℕ) → i < count
+  pub each : (i : ℕ) (h : Sentence) (given : Expression) (step : List ℕ) → i < count
       → slice_get m.hypotheses i ≡ Some h → slice_get m.entries i ≡ Some given
-      → slice_get origins (length m.rest + i) ≡ Some number
+      → slice_get steps (length m.rest + i) ≡ Some step
       → (asked : Expression) × AsksFor before stack label i asked
       × (slice_get details i
-      ≡ Some (hypothesis_asks (unwrap_or h.label []) asked number given))
+      ≡ Some (hypothesis_asks (unwrap_or h.label []) asked step given))

@@ -3,7 +3,9 @@ use Rattle.std.proofs.Common.{ℕ, ◌≤◌, List, length, map, ap, ◌∙◌, 
 use Rattle.std.specs.List.{sum_by}
 use Rattle.mm_base.specs.MostBytes.{most_bytes}
 use Rattle.mm_step.specs.Plain.{token_texts}
+use Rattle.mm_base.specs.Token.{PlainToken, plain_token}
 use Rattle.mm_text.specs.Files.{plain_file, PlainFile}
+use Rattle.mm_rules.proofs.Judgements.JudgedProofs.{texts_of}
 use Rattle.mm_base.specs.Statement.{plain_statement, PlainStatement}
 use Rattle.mm_frame.specs.Sentence.{Sentence, sentence_of}
 use Rattle.mm_step.specs.declared.profile.Profile.TheVariants.{Lenient}
@@ -48,7 +50,7 @@ fault_place-at-requires-clause-cause c =
       subst
           (λ (ts : List (List ℕ)). IsCauseOf Lenient c.args.reached.now.book.statements
           c.args.reached.now.id.0 ts c.args.fault.0 c.args.fault.1 c.in_ok-cause.cause)
-          c.requires.tokens c.in_ok-cause.ensures,
+          c.requires.tokens c.in_ok-cause.ensures.cause,
     )
 
 pub push_cause-requires-clause-proof : goal.push_cause-requires-clause-proof
@@ -57,7 +59,7 @@ push_cause-requires-clause-proof c =
 
 pub push_cause-requires-clause-cause : goal.push_cause-requires-clause-cause
 push_cause-requires-clause-cause c =
-    (token_texts c.args.tokens.now, c.args.fault.1, c.in_ok-cause.ensures)
+    (token_texts c.args.tokens.now, c.args.fault.1, c.in_ok-cause.ensures.cause)
 
 pub returns : goal.returns
 returns c = λ label r.
@@ -65,19 +67,25 @@ returns c = λ label r.
     let st = c.args.reached.now.book.statements in
     let s : PlainStatement = plain_statement c.args.reached.now.statement in
     let tokens : List (List ℕ) = token_texts c.args.tokens.now in
+    let placed : List PlainToken = map plain_token c.args.tokens.now in
     let rule = c.args.fault.0 in
     let step = c.args.fault.1 in
     let mine = reached_number files label c.args.reached.now r in
     let told = of_reached files label c.args.reached.now r
-    (λ before s. (details : List Detail) × AreDetails Lenient before s tokens rule step details
+    (λ before s. (details : List Detail) × AreDetails files Lenient before s placed rule step details
     × (c.push_cause.new.out.items ≡ c.push_head.new.out.items ++ details_text details))
-    (c.in_ok-push_cause.ensures tokens step c.in_ok-cause.ensures) in
+    (c.in_ok-push_cause.ensures files placed step
+    (subst
+    (λ (ts : List (List ℕ)). IsCauseOf Lenient st c.args.reached.now.id.0 ts rule step
+    c.in_ok-cause.cause)
+    (texts_of c.args.tokens.now) c.in_ok-cause.ensures.cause)
+    c.in_ok-cause.ensures.told) in
     let place = c.fault_place-at.ensures Lenient st c.args.reached.now.id.0 (length r.before) rule step
     mine
     (subst
     (λ (ts : List (List ℕ)). IsCauseOf Lenient st c.args.reached.now.id.0 ts rule step
     c.in_ok-cause.cause)
-    c.requires.tokens c.in_ok-cause.ensures) in
+    c.requires.tokens c.in_ok-cause.ensures.cause) in
     let one : plain_refusal c.refusal-refusal.result
     ≡ refusal_of files (length r.before) s (rules.Proof rule) step =
     c.refusal-refusal.ensures.told
@@ -95,9 +103,9 @@ returns c = λ label r.
           c.requires.shown);
       details = told.0;
       explained = subst
-          (λ (ts : List (List ℕ)). AreDetails Lenient (sentences r.before) (sentence_of s) ts rule
-          step told.0)
-          c.requires.tokens told.1;
+          (λ (ts : List PlainToken). AreDetails files Lenient (sentences r.before) (sentence_of s) ts
+          rule step told.0)
+          c.requires.placed told.1;
       at = c.fault_place-at.result;
       place = subst
           (λ (before : List Sentence). IsFaultPlace Lenient before s rule step c.fault_place-at.result)

@@ -3,6 +3,7 @@ use Rattle.std.proofs.Common.{◌≡◌, ◌≤◌, ◌∙◌, ℕ, List, length
 use Rattle.std.specs.List.{sum_by}
 use Rattle.std.proofs.lemmas.Result.{IfOk-weaker}
 use Rattle.mm_base.specs.MostBytes.{most_bytes}
+use Rattle.mm_base.specs.Token.{plain_token}
 use Rattle.mm_base.specs.declared.token.Token.{Token}
 use Rattle.mm_base.specs.Statement.{plain_statement}
 use Rattle.mm_text.specs.Files.{plain_file, PlainFile}
@@ -41,6 +42,9 @@ pub steps_reply-requires-clause-tokens : goal.steps_reply-requires-clause-tokens
 steps_reply-requires-clause-tokens c =
     own_texts c.args.reached.now c.deref-in-Ok.result.now c.deref-in-Ok.ensures.value
 
+pub steps_reply-requires-clause-placed : goal.steps_reply-requires-clause-placed
+steps_reply-requires-clause-placed c = ap (map plain_token) c.deref-in-Ok.ensures.value
+
 pub steps_reply-requires-clause-room : goal.steps_reply-requires-clause-room
 steps_reply-requires-clause-room c =
     own_room (map plain_file c.args.files.now) c.requires.0 c.args.reached.now c.requires.1
@@ -49,6 +53,9 @@ steps_reply-requires-clause-room c =
 pub fault_reply-requires-clause-tokens : goal.fault_reply-requires-clause-tokens
 fault_reply-requires-clause-tokens c =
     own_texts c.args.reached.now c.deref-in-Err-Rule.result.now c.deref-in-Err-Rule.ensures.value
+
+pub fault_reply-requires-clause-placed : goal.fault_reply-requires-clause-placed
+fault_reply-requires-clause-placed c = ap (map plain_token) c.deref-in-Err-Rule.ensures.value
 
 pub fault_reply-requires-clause-room : goal.fault_reply-requires-clause-room
 fault_reply-requires-clause-room c =

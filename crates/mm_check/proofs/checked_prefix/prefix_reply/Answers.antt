@@ -1,15 +1,28 @@
 -- What follows the lines is what the known prefix leaves.
-use Rattle.std.proofs.Common.{refl}
+use Rattle.std.proofs.Common.{◌≡◌, ℕ, List, true, take, refl, subst}
+use Rattle.mm_frame.specs.Sentence.{Sentence}
+use Rattle.mm_step.specs.declared.profile.Profile.TheVariants.{Lenient}
+use Rattle.mm_proof.specs.CheckedPrefix.{checked_prefix}
+use Rattle.mm_proof.specs.Tokens.{is_incomplete}
+use Rattle.mm_proof.specs.UnderProfile.{IsPrefixAllowedUnder}
+use Rattle.mm_render.specs.Shown.{IsListingText}
+use Rattle.mm_rules.proofs.Judgements.JudgedProofs.{texts_of}
 use Rattle.mm_check.proofs.checked_prefix.prefix_reply.Goals as goal
 
 pub returns : goal.returns
 returns c = λ index s number.
     let told = c.in_ok-push_left_over.ensures index s number in
+    let same = texts_of c.args.tokens.now in
+    let before : List Sentence = take index c.args.book.now.statements in
     record {
-      incomplete = c.requires.incomplete;
-      allowed = c.requires.allowed index s number;
+      incomplete = subst (λ (ts : List (List ℕ)). is_incomplete ts ≡ true) same
+          c.requires.incomplete;
+      allowed = subst (λ (ts : List (List ℕ)). IsPrefixAllowedUnder Lenient before s ts) same
+          (c.requires.allowed index s number);
       lines = c.args.lines.items;
-      shown = c.requires.shown index s number;
+      shown = subst
+          (λ (ts : List (List ℕ)). IsListingText before s (checked_prefix ts) c.args.lines.items)
+          same (c.requires.shown index s number);
       details = told.0;
       left = told.1;
       said = told.2;

@@ -4,6 +4,7 @@ use Rattle.std.proofs.Common.{◌∙◌}
 use Rattle.std.specs.List.{AllZip}
 use Rattle.std.proofs.lemmas.Result.{IfOk-weaker}
 use Rattle.mm_step.specs.Plain.{token_texts}
+use Rattle.mm_base.specs.Token.{plain_token}
 use Rattle.mm_text.specs.Files.{plain_file}
 use Rattle.mm_frame.specs.Sentence.{Sentence}
 use Rattle.mm_listing.specs.declared.lines.Line.{Line}
@@ -13,8 +14,9 @@ use Rattle.mm_proof.specs.declared.prover.Proved.TheVariants.{Complete}
 use Rattle.mm_check.specs.Reply.{IsCheckedPrefix}
 use Rattle.mm_render.specs.Shown.{IsListingText}
 use Rattle.mm_rules.specs.Status.{number_of}
-use Rattle.mm_check.proofs.KnownSteps.{IsTextOfLines, first_pass, first_within, known_fault}
+use Rattle.mm_check.proofs.KnownSteps.{IsTextOfLines, known_fault}
 use Rattle.mm_check.proofs.KnownSteps.{known_listed, known_shown, known_tried}
+use Rattle.mm_facts.proofs.StepPlaces.{first_pass, first_within}
 use Rattle.mm_explain.proofs.LoneProofs.LoneTheorems.{of_reached}
 use Rattle.mm_check.proofs.checked_prefix.steps_reply.Goals as goal
 
@@ -87,10 +89,10 @@ prefix_reply-requires-clause-shown c =
 pub returns-in-None : goal.returns-in-None
 returns-in-None c =
     IfOk-weaker c.prefix_reply.result _ _
-    (λ reply told label r. inr (inl (rw c.requires.tokens at (of_reached
+    (λ reply told label r. inr (inl (rw c.requires.placed at (of_reached
     (map plain_file c.args.files.now) label c.args.reached.now r
-    (λ before s. IsCheckedPrefix before s (token_texts c.args.tokens.now) reply.text.items
-    (number_of reply.status))
+    (λ before s. IsCheckedPrefix (map plain_file c.args.files.now) before s
+    (map plain_token c.args.tokens.now) reply.text.items (number_of reply.status))
     told))))
     c.prefix_reply.ensures
 

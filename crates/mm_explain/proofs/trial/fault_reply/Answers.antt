@@ -1,7 +1,7 @@
 -- The line tells the fault, and what follows explains it: its place, and the facts.
-use Rattle.std.proofs.Common.{ℕ, List, [], length}
+use Rattle.std.proofs.Common.{ℕ, List, [], length, map}
 use Rattle.std.proofs.Common.{◌∷◌, ◌++◌, None, ap, subst, take, ◌∙◌}
-use Rattle.mm_base.specs.Token.{PlainToken}
+use Rattle.mm_base.specs.Token.{PlainToken, plain_token}
 use Rattle.mm_text.specs.Files.{PlainFile, plain_file}
 use Rattle.mm_step.specs.Plain.{token_texts}
 use Rattle.mm_frame.specs.Sentence.{Sentence}
@@ -9,6 +9,8 @@ use Rattle.mm_step.specs.declared.profile.Profile.TheVariants.{Lenient}
 use Rattle.mm_rules.specs.declared.rule.Rule.TheVariants as rules
 use Rattle.mm_facts.specs.Explained.{AreDetails, IsTokensFault, details_text}
 use Rattle.mm_facts.specs.Why.{IsPlaceAmong}
+use Rattle.mm_facts.specs.Mirror.Explaining.{IsCauseOf}
+use Rattle.mm_rules.proofs.Judgements.JudgedProofs.{texts_of}
 use Rattle.mm_explain.specs.Why.{head_at}
 use Rattle.mm_explain.proofs.trial.fault_reply.Goals as goal
 
@@ -23,12 +25,12 @@ place_among-at-requires-clause-cause c =
       c.args.fault.0,
       c.args.fault.1,
       number,
-      c.in_ok-cause.ensures,
+      c.in_ok-cause.ensures.cause,
     )
 
 pub push_cause-requires-clause-cause : goal.push_cause-requires-clause-cause
 push_cause-requires-clause-cause c =
-    (token_texts c.args.tokens.now, c.args.fault.1, c.in_ok-cause.ensures)
+    (token_texts c.args.tokens.now, c.args.fault.1, c.in_ok-cause.ensures.cause)
 
 pub returns : goal.returns
 returns c = λ index s number.
@@ -36,9 +38,13 @@ returns c = λ index s number.
     let proof : PlainFile = plain_file c.args.proof.now in
     let rule = c.args.fault.0 in
     let step = c.args.fault.1 in
-    let tokens : List (List ℕ) = token_texts c.args.tokens.now in
+    let tokens : List PlainToken = map plain_token c.args.tokens.now in
     let head = head_at (proof ∷ []) 0 c.place_among-at.result (rules.Proof rule) None step in
-    let told = c.in_ok-push_cause.ensures tokens step c.in_ok-cause.ensures index s number in
+    let told = c.in_ok-push_cause.ensures (proof ∷ []) tokens step
+    (subst
+    (λ (ts : List (List ℕ)). IsCauseOf Lenient st c.args.id.0 ts rule step c.in_ok-cause.cause)
+    (texts_of c.args.tokens.now) c.in_ok-cause.ensures.cause)
+    c.in_ok-cause.ensures.told index s number in
     record {
       rule = rule;
       step = step;
@@ -52,11 +58,12 @@ returns c = λ index s number.
           (length proof.bytes) rule step c.place_among-at.result)
           c.requires.places
           (c.place_among-at.ensures Lenient st c.args.id.0 index s rule step number
-          c.in_ok-cause.ensures);
+          c.in_ok-cause.ensures.cause);
       details = told.0;
       explained = subst
-          (λ (ts : List (List ℕ)). AreDetails Lenient (take index st) s ts rule step told.0)
-          c.requires.tokens told.1;
+          (λ (ts : List PlainToken). AreDetails (proof ∷ []) Lenient (take index st) s ts rule step
+          told.0)
+          c.requires.places told.1;
       said = told.2
           ∙ ap (λ (lines : List ℕ). lines ++ details_text told.0) c.in_ok-push_head_at.ensures;
     }

@@ -2,6 +2,7 @@
 use Rattle.std.proofs.Common.{ℕ, List, ◌++◌, ◌-◌, map, length, ap, refl, subst, ◌∙◌}
 use Rattle.std.specs.Prelude.{option_map}
 use Rattle.mm_base.specs.Statement.{plain_statement}
+use Rattle.mm_base.specs.Token.{PlainToken, plain_token}
 use Rattle.mm_text.specs.Files.{PlainFile, plain_file}
 use Rattle.mm_frame.specs.Sentence.{sentence_of}
 use Rattle.mm_step.specs.Plain.{token_texts}
@@ -58,7 +59,7 @@ fault_place-requires-clause-cause c =
           (λ (ts : List (List ℕ)). IsCauseOf c.args.profile c.args.book.now.statements
           c.last_number-id.result.0 ts c.fault_in-fault.result.0 c.fault_in-fault.result.1
           c.in_ok-cause.cause)
-          same c.in_ok-cause.ensures,
+          same c.in_ok-cause.ensures.cause,
     )
 
 pub push_cause-requires-clause-proof : goal.push_cause-requires-clause-proof
@@ -71,7 +72,7 @@ push_cause-requires-clause-proof c =
 
 pub push_cause-requires-clause-cause : goal.push_cause-requires-clause-cause
 push_cause-requires-clause-cause c =
-    (token_texts c.deref.result.now, c.fault_in-fault.result.1, c.in_ok-cause.ensures)
+    (token_texts c.deref.result.now, c.fault_in-fault.result.1, c.in_ok-cause.ensures.cause)
 
 pub push_hypothesis_places-requires : goal.push_hypothesis_places-requires
 push_hypothesis_places-requires c =
@@ -90,7 +91,7 @@ unknown_label-requires c =
       token_texts c.deref.result.now,
       c.fault_in-fault.result.1,
       c.last_number-id.ensures (sentences r.before) (told_parts r),
-      c.in_ok-cause.ensures,
+      c.in_ok-cause.ensures.cause,
     )
 
 pub returns : goal.returns
@@ -106,20 +107,26 @@ returns c =
     let s = plain_statement c.args.statement.now in
     let mine = c.last_number-id.ensures (sentences r.before) (told_parts r) in
     let own = ap token_texts c.deref.ensures.value ∙ texts_of c.args.statement.now.proof.items in
-    let caused = c.in_ok-cause.ensures in
+    let caused = c.in_ok-cause.ensures.cause in
+    let placed : List PlainToken = map plain_token c.deref.result.now in
     let own_cause =
     subst
     (λ (ts : List (List ℕ)). IsCauseOf c.args.profile st id ts rule step c.in_ok-cause.cause) own
     caused in
     let place = c.fault_place.ensures c.args.profile st id index rule step mine own_cause in
-    let placed = refused_place r id (c.args.refusal.now.statement - 1) refl mine in
+    let standing = refused_place r id (c.args.refusal.now.statement - 1) refl mine in
     let (details, facts, put) =
-    c.in_ok-push_cause.ensures tokens step caused index (sentence_of s) mine in
+    c.in_ok-push_cause.ensures files placed step
+    (subst
+    (λ (ts : List (List ℕ)). IsCauseOf c.args.profile st id ts rule step c.in_ok-cause.cause)
+    (texts_of c.deref.result.now) caused)
+    c.in_ok-cause.ensures.told index (sentence_of s) mine in
     let head = head_text files c.fault_place.result (plain_refusal c.args.refusal.now) in
-    let (places, stand, more) = c.in_ok-push_hypothesis_places.ensures placed c.args.profile step
+    let (places, stand, more) = c.in_ok-push_hypothesis_places.ensures standing c.args.profile step
     own_cause in (
       head ++ details_text (details ++ places),
-      explained_there r id mine tokens own rule step c.fault_in-fault.ensures.rule
+      explained_there r id mine tokens own placed
+          (ap (map plain_token) c.deref.ensures.value) rule step c.fault_in-fault.ensures.rule
           c.fault_in-fault.ensures.step c.fault_place.result place details facts places stand
           (option_map (λ l. l.now) c.unknown_label.result)
           (c.unknown_label.ensures c.args.profile st id index (sentence_of s) tokens step mine

@@ -29,8 +29,8 @@ whole_place-requires-clause-known_fault c = λ known index s proof. (
       c.if-fault-eq0.true known,
 )
 
-pub returns-then-fault-eq0 : goal.returns-then-fault-eq0
-returns-then-fault-eq0 c =
+pub returns-then-fault-eq0-clause-cause : goal.returns-then-fault-eq0-clause-cause
+returns-then-fault-eq0-clause-cause c =
     let st = c.args.book.now.statements in
     let tokens = c.args.tokens.now in
     let index = c.in_ok-index.index in
@@ -56,9 +56,9 @@ returns-then-fault-eq0 c =
       );
     }
 
-pub returns : goal.returns
-returns c = record {
+pub returns-clause-cause : goal.returns-clause-cause
+returns-clause-cause c = record {
   sound = c.frame-own.ensures.sound;
   fault = c.requires.fault;
-  causes = (c.if-fault-eq0.false, c.in_ok-steps.ensures, c.in_ok-halt.ensures.halted);
+  causes = (c.if-fault-eq0.false, c.in_ok-steps.ensures, c.in_ok-stop.ensures.halted);
 }

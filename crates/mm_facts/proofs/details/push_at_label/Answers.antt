@@ -9,7 +9,7 @@ pub returns : goal.returns
 returns c =
     on_ok_weaker c.push_step_details.result
     (λ told index s prefix moves number h.
-    let step = step_left c.args.book.now.statements h.there.left c.args.halt.now.at c.args.step.0 c.requires.place h.place in
+    let step = step_left c.args.book.now.statements h.there.left c.args.stop.now.halt.at c.args.step.0 c.requires.place h.place in
     let facts = told index s prefix moves number h in
     let label = facts.1.0 in (
       step_label label ∷ facts.0,

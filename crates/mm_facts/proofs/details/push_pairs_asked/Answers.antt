@@ -22,8 +22,8 @@ pub frame-frame-requires : goal.frame-frame-requires
 frame-frame-requires c =
     let st = c.args.book.now.statements in
     let own = c.requires.halt.1 in
-    let step = step_left st own.halts.there.left c.args.halt.now.at c.args.label c.requires.place own.halts.place in
-    let m = apart_meets c.requires.halt.0 st (take own.index st) own.s own.prefix own.moves c.args.halt.now own.halts c.args.label.0 step c.args.rule c.requires.broken c.requires.apart in
+    let step = step_left st own.halts.there.left c.args.stop.now.halt.at c.args.label c.requires.place own.halts.place in
+    let m = apart_meets c.requires.halt.0 st (take own.index st) own.s own.prefix own.moves c.args.stop.now.halt own.halts c.args.label.0 step c.args.rule c.requires.broken c.requires.apart in
     assertion_number st own.index c.args.label.0 m.index step.label m.assertion m.hypotheses
     c.requires.sound.0 step.numbered m.names
 
@@ -31,12 +31,12 @@ pub overflow_sub-base : goal.overflow_sub-base
 overflow_sub-base c =
     let st = c.args.book.now.statements in
     let own = c.requires.halt.1 in
-    let step = step_left st own.halts.there.left c.args.halt.now.at c.args.label c.requires.place own.halts.place in
-    let m = apart_meets c.requires.halt.0 st (take own.index st) own.s own.prefix own.moves c.args.halt.now own.halts c.args.label.0 step c.args.rule c.requires.broken c.requires.apart in
-    let z = sizes c.requires.halt.0 st own.index own.s own.prefix own.moves c.args.halt.now own.halts c.requires.sound.0
+    let step = step_left st own.halts.there.left c.args.stop.now.halt.at c.args.label c.requires.place own.halts.place in
+    let m = apart_meets c.requires.halt.0 st (take own.index st) own.s own.prefix own.moves c.args.stop.now.halt own.halts c.args.label.0 step c.args.rule c.requires.broken c.requires.apart in
+    let z = sizes c.requires.halt.0 st own.index own.s own.prefix own.moves c.args.stop.now.halt own.halts c.requires.sound.0
     c.args.label.0 c.frame-frame.result c.frame-frame.ensures.book c.frame-frame.ensures.index.0 c.frame-frame.ensures.index.1 c.frame-frame.ensures.index.2
     c.hypotheses.result.now c.hypotheses.ensures.ids step.label step.numbered m in
-    let long : vec_len c.args.halt.now.origins ≡ length c.args.halt.now.origins.items = search rules in
+    let long : vec_len c.args.stop.now.halt.origins ≡ length c.args.stop.now.halt.origins.items = search rules in
     let origins = z.origins in
     omega (arith, c.len.ensures)
 
@@ -44,19 +44,19 @@ pub push_disjoint_pairs-requires-clause-entries : goal.push_disjoint_pairs-requi
 push_disjoint_pairs-requires-clause-entries c =
     let st = c.args.book.now.statements in
     let own = c.requires.halt.1 in
-    let step = step_left st own.halts.there.left c.args.halt.now.at c.args.label c.requires.place own.halts.place in
-    let m = apart_meets c.requires.halt.0 st (take own.index st) own.s own.prefix own.moves c.args.halt.now own.halts c.args.label.0 step c.args.rule c.requires.broken c.requires.apart in
-    let z = sizes c.requires.halt.0 st own.index own.s own.prefix own.moves c.args.halt.now own.halts c.requires.sound.0
+    let step = step_left st own.halts.there.left c.args.stop.now.halt.at c.args.label c.requires.place own.halts.place in
+    let m = apart_meets c.requires.halt.0 st (take own.index st) own.s own.prefix own.moves c.args.stop.now.halt own.halts c.args.label.0 step c.args.rule c.requires.broken c.requires.apart in
+    let z = sizes c.requires.halt.0 st own.index own.s own.prefix own.moves c.args.stop.now.halt own.halts c.requires.sound.0
     c.args.label.0 c.frame-frame.result c.frame-frame.ensures.book c.frame-frame.ensures.index.0 c.frame-frame.ensures.index.1 c.frame-frame.ensures.index.2
     c.hypotheses.result.now c.hypotheses.ensures.ids step.label step.numbered m in
-    let long : vec_len c.args.halt.now.origins ≡ length c.args.halt.now.origins.items = search rules in
+    let long : vec_len c.args.stop.now.halt.origins ≡ length c.args.stop.now.halt.origins.items = search rules in
     let origins = z.origins in
     let es = c.in_ok-entries.entries.items in
     let base : ℕ = c.len.result - length c.hypotheses.result.now in
     let many = count_entries es in
-    let sum : base + length c.hypotheses.result.now ≡ length c.args.halt.now.origins.items = omega (arith, c.len.ensures) in
-    let count : base + length (entries_in es) ≡ length c.args.halt.now.origins.items = omega (arith, c.in_ok-entries.ensures.count) in
-    let scene = apart_step c.requires.halt.0 st own.index own.s own.prefix own.moves c.args.halt.now own.halts c.requires.sound.0 c.args.label.0 c.frame-frame.result
+    let sum : base + length c.hypotheses.result.now ≡ length c.args.stop.now.halt.origins.items = omega (arith, c.len.ensures) in
+    let count : base + length (entries_in es) ≡ length c.args.stop.now.halt.origins.items = omega (arith, c.in_ok-entries.ensures.count) in
+    let scene = apart_step c.requires.halt.0 st own.index own.s own.prefix own.moves c.args.stop.now.halt own.halts c.requires.sound.0 c.args.label.0 c.frame-frame.result
     c.frame-frame.ensures.book c.frame-frame.ensures.index.0 c.frame-frame.ensures.index.1 c.frame-frame.ensures.index.2
     c.hypotheses.result.now c.hypotheses.ensures.ids c.pairs.result.now c.pairs.ensures.variables c.pairs.ensures.indices
     step.label step.numbered m base sum (entries_in es) count c.in_ok-entries.ensures.entries in (
@@ -72,19 +72,19 @@ pub push_disjoint_pairs-requires-clause-pairs : goal.push_disjoint_pairs-require
 push_disjoint_pairs-requires-clause-pairs c = λ i p there.
     let st = c.args.book.now.statements in
     let own = c.requires.halt.1 in
-    let step = step_left st own.halts.there.left c.args.halt.now.at c.args.label c.requires.place own.halts.place in
-    let m = apart_meets c.requires.halt.0 st (take own.index st) own.s own.prefix own.moves c.args.halt.now own.halts c.args.label.0 step c.args.rule c.requires.broken c.requires.apart in
-    let z = sizes c.requires.halt.0 st own.index own.s own.prefix own.moves c.args.halt.now own.halts c.requires.sound.0
+    let step = step_left st own.halts.there.left c.args.stop.now.halt.at c.args.label c.requires.place own.halts.place in
+    let m = apart_meets c.requires.halt.0 st (take own.index st) own.s own.prefix own.moves c.args.stop.now.halt own.halts c.args.label.0 step c.args.rule c.requires.broken c.requires.apart in
+    let z = sizes c.requires.halt.0 st own.index own.s own.prefix own.moves c.args.stop.now.halt own.halts c.requires.sound.0
     c.args.label.0 c.frame-frame.result c.frame-frame.ensures.book c.frame-frame.ensures.index.0 c.frame-frame.ensures.index.1 c.frame-frame.ensures.index.2
     c.hypotheses.result.now c.hypotheses.ensures.ids step.label step.numbered m in
-    let long : vec_len c.args.halt.now.origins ≡ length c.args.halt.now.origins.items = search rules in
+    let long : vec_len c.args.stop.now.halt.origins ≡ length c.args.stop.now.halt.origins.items = search rules in
     let origins = z.origins in
     let es = c.in_ok-entries.entries.items in
     let base : ℕ = c.len.result - length c.hypotheses.result.now in
     let many = count_entries es in
-    let sum : base + length c.hypotheses.result.now ≡ length c.args.halt.now.origins.items = omega (arith, c.len.ensures) in
-    let count : base + length (entries_in es) ≡ length c.args.halt.now.origins.items = omega (arith, c.in_ok-entries.ensures.count) in
-    let scene = apart_step c.requires.halt.0 st own.index own.s own.prefix own.moves c.args.halt.now own.halts c.requires.sound.0 c.args.label.0 c.frame-frame.result
+    let sum : base + length c.hypotheses.result.now ≡ length c.args.stop.now.halt.origins.items = omega (arith, c.len.ensures) in
+    let count : base + length (entries_in es) ≡ length c.args.stop.now.halt.origins.items = omega (arith, c.in_ok-entries.ensures.count) in
+    let scene = apart_step c.requires.halt.0 st own.index own.s own.prefix own.moves c.args.stop.now.halt own.halts c.requires.sound.0 c.args.label.0 c.frame-frame.result
     c.frame-frame.ensures.book c.frame-frame.ensures.index.0 c.frame-frame.ensures.index.1 c.frame-frame.ensures.index.2
     c.hypotheses.result.now c.hypotheses.ensures.ids c.pairs.result.now c.pairs.ensures.variables c.pairs.ensures.indices
     step.label step.numbered m base sum (entries_in es) count c.in_ok-entries.ensures.entries in
@@ -100,19 +100,19 @@ returns c =
     on_ok_weaker c.push_disjoint_pairs.result
     (λ added limit index s prefix moves number h.
     let st = c.args.book.now.statements in
-    let step = step_left st h.there.left c.args.halt.now.at c.args.label c.requires.place h.place in
-    let m = apart_meets limit st (take index st) s prefix moves c.args.halt.now h c.args.label.0 step c.args.rule c.requires.broken c.requires.apart in
-    let z = sizes limit st index s prefix moves c.args.halt.now h c.requires.sound.0
+    let step = step_left st h.there.left c.args.stop.now.halt.at c.args.label c.requires.place h.place in
+    let m = apart_meets limit st (take index st) s prefix moves c.args.stop.now.halt h c.args.label.0 step c.args.rule c.requires.broken c.requires.apart in
+    let z = sizes limit st index s prefix moves c.args.stop.now.halt h c.requires.sound.0
     c.args.label.0 c.frame-frame.result c.frame-frame.ensures.book c.frame-frame.ensures.index.0 c.frame-frame.ensures.index.1 c.frame-frame.ensures.index.2
     c.hypotheses.result.now c.hypotheses.ensures.ids step.label step.numbered m in
-    let long : vec_len c.args.halt.now.origins ≡ length c.args.halt.now.origins.items = search rules in
+    let long : vec_len c.args.stop.now.halt.origins ≡ length c.args.stop.now.halt.origins.items = search rules in
     let origins = z.origins in
     let es = c.in_ok-entries.entries.items in
     let base : ℕ = c.len.result - length c.hypotheses.result.now in
     let many = count_entries es in
-    let sum : base + length c.hypotheses.result.now ≡ length c.args.halt.now.origins.items = omega (arith, c.len.ensures) in
-    let count : base + length (entries_in es) ≡ length c.args.halt.now.origins.items = omega (arith, c.in_ok-entries.ensures.count) in
-    let scene = apart_step limit st index s prefix moves c.args.halt.now h c.requires.sound.0 c.args.label.0 c.frame-frame.result
+    let sum : base + length c.hypotheses.result.now ≡ length c.args.stop.now.halt.origins.items = omega (arith, c.len.ensures) in
+    let count : base + length (entries_in es) ≡ length c.args.stop.now.halt.origins.items = omega (arith, c.in_ok-entries.ensures.count) in
+    let scene = apart_step limit st index s prefix moves c.args.stop.now.halt h c.requires.sound.0 c.args.label.0 c.frame-frame.result
     c.frame-frame.ensures.book c.frame-frame.ensures.index.0 c.frame-frame.ensures.index.1 c.frame-frame.ensures.index.2
     c.hypotheses.result.now c.hypotheses.ensures.ids c.pairs.result.now c.pairs.ensures.variables c.pairs.ensures.indices
     step.label step.numbered m base sum (entries_in es) count c.in_ok-entries.ensures.entries in

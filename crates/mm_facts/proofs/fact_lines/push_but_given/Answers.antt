@@ -17,10 +17,10 @@ returns-in-Some c =
     difference_told c.args.book.now.statements c.args.asked.now c.args.given.now c.difference.result
     c.requires.asked c.requires.given c.difference.ensures.same c.difference.ensures.differ c.difference.ensures.first in
     on_ok_weaker c.push_difference.result
-    (λ h. but_given c.args.out.now.items c.push_expression.new.out.items c.push_number_between.new.out.items
+    (λ h. but_given c.args.out.now.items c.push_expression.new.out.items c.push_between.new.out.items
     c.push_expression-2.new.out.items c.push_difference.new.out.items (name c.args.asked.now) (name c.args.given.now)
-    c.args.number (Some c.in-Some.index) (told ∙ c.in-Some.is)
-    c.in_ok-push_expression.ensures c.in_ok-push_number_between.ensures c.in_ok-push_expression-2.ensures h)
+    c.args.step.now (Some c.in-Some.index) (told ∙ c.in-Some.is)
+    c.in_ok-push_expression.ensures c.in_ok-push_between.ensures c.in_ok-push_expression-2.ensures h)
     c.push_difference.ensures
 
 pub returns-in-None : goal.returns-in-None
@@ -29,8 +29,8 @@ returns-in-None c =
     let told : difference (name c.args.asked.now) (name c.args.given.now) ≡ c.difference.result =
     difference_told c.args.book.now.statements c.args.asked.now c.args.given.now c.difference.result
     c.requires.asked c.requires.given c.difference.ensures.same c.difference.ensures.differ c.difference.ensures.first in
-    but_given c.args.out.now.items c.push_expression.new.out.items c.push_number_between.new.out.items
+    but_given c.args.out.now.items c.push_expression.new.out.items c.push_between.new.out.items
     c.push_expression-2.new.out.items c.push_expression-2.new.out.items (name c.args.asked.now) (name c.args.given.now)
-    c.args.number None (told ∙ c.in-None.is)
-    c.in_ok-push_expression.ensures c.in_ok-push_number_between.ensures c.in_ok-push_expression-2.ensures
+    c.args.step.now None (told ∙ c.in-None.is)
+    c.in_ok-push_expression.ensures c.in_ok-push_between.ensures c.in_ok-push_expression-2.ensures
     (sym (append-nil c.push_expression-2.new.out.items))
