@@ -297,6 +297,7 @@ ends 0 'first.mm:7:1\nth $p term ( 0 + 0 )\n' '' statement th first.mm
 ends 0 'rests.mm:2:14\nh $e a\nstep $a b\n' '' statement step rests.mm
 ends 1 'ask A1 none\n' '' statement none first.mm
 ends 1 'no twice.mm 2 - M2 0\n' '' statement p twice.mm
+ends 0 'faults.mm:5:1\nr $p a\n' '' statement r faults.mm
 ends 0 'one $a : a\nstep $a : a => b\nopen $p : a\nhalf $p : b\nfull $p : b\n' '' \
     statement --all rests.mm
 ends 1 'no twice.mm 2 - M2 0\n' '' statement --all twice.mm

@@ -19,14 +19,14 @@ use Rattle.mm_step.specs.declared.profile.Profile.TheVariants.{Lenient}
 use Rattle.mm_rules.specs.declared.rule.Rule.{Rule}
 use Rattle.mm_rules.specs.declared.rule.Rule.TheVariants as rules
 use Rattle.mm_rules.specs.declared.rule.AskRule.{AskRule}
-use Rattle.mm_rules.specs.declared.rule.AskRule.TheVariants.{L2}
+use Rattle.mm_rules.specs.declared.rule.AskRule.TheVariants.{A1, L2}
 use Rattle.mm_rules.specs.Answer.{labels_at}
 use Rattle.mm_axioms.specs.AllAxioms.{ReportLine, AreReportLines}
 use Rattle.mm_rules.specs.declared.ask.AskFault.{AskFault}
 use Rattle.mm_rules.specs.declared.ask.AskFault.TheVariants as ask
 use Rattle.mm_check.specs.declared.command.Command.{Command}
 use Rattle.mm_check.specs.declared.command.Command.TheVariants.{Whole, About, Lone, File, Shorter}
-use Rattle.mm_check.specs.declared.command.Command.TheVariants.{Find}
+use Rattle.mm_check.specs.declared.command.Command.TheVariants.{Find, Statement}
 use Rattle.mm_check.specs.Chain.{IsChainReply}
 use Rattle.mm_find.specs.Reply.{IsFindReply, query_for}
 use Rattle.mm_check.specs.declared.question.Question.{Question}
@@ -40,7 +40,7 @@ use Rattle.mm_check.specs.declared.question.WholeQuestion.TheVariants.{Shorter a
 use Rattle.mm_axioms.specs.Users.{IsAssertionFault, AreUsers}
 use Rattle.mm_axioms.specs.Essential.{IsEssentialReport}
 use Rattle.mm_rules.specs.Rests.{IsAskFault, IsReport}
-use Rattle.mm_verdict.specs.Alone.{IsRefusedBefore, IsNoTheorem, IsTheoremAt}
+use Rattle.mm_verdict.specs.Alone.{IsRefusedBefore, IsNoTheorem, IsReadTo, IsTheoremAt}
 use Rattle.mm_check.specs.Alone.{AreStepsBefore}
 use Rattle.mm_facts.specs.Explained.{Detail, IsTokensFault, AreDetails, AreLeftOver}
 use Rattle.mm_facts.specs.Explained.{judged_tokens}
@@ -53,7 +53,7 @@ use Rattle.mm_render.specs.Forms.{IsNormalOf, IsPackedOf, IsSmallOf}
 use Rattle.mm_render.specs.Compared.{IsCompared}
 use Rattle.mm_rules.specs.Compared.{IsSameFault}
 use Rattle.mm_render.specs.Saved.{IsSaved, FitsSaved, IsFormFault, IsSaveFault}
-use Rattle.mm_verdict.specs.Stated.{IsStatementFault, TellsStatement}
+use Rattle.mm_verdict.specs.Stated.{TellsStatement}
 use Rattle.mm_save.specs.AllSaved.{IsAllSaved, IsFirstTooLong, IsAllSaveFault}
 use Rattle.mm_minimize.specs.AllShorter.{IsAllShortened, IsAllShorterFault, ShorterLine}
 use Rattle.mm_minimize.specs.AllShorter.{AreShorterLines, shorter_text}
@@ -194,7 +194,7 @@ IsSameReply profile label proof statements text status =
     ⊎ ((same : Bool) × IsCompared profile statements label proof same
     × (text ≡ same_text same) × (status ≡ same_status same))
 
--- the reply to a question about the statement with a label, in the profile that the files obey
+-- the reply to a question about the assertion with a label, in the profile that the files obey
 abbrev pub IsAnswerTo : Profile → Question → List PlainFile → (label : List ℕ)
     → List PlainStatement → List ℕ → ℕ → Type 0
 IsAnswerTo profile (question.Axioms essential) files label statements text status =
@@ -214,9 +214,6 @@ IsAnswerTo profile (question.Same proof) files label statements text status =
 IsAnswerTo profile (question.Users all) files label statements text status =
     IsTextReply (ListsUsers all statements label) (IsAssertionFault statements label) label text
     status
-IsAnswerTo profile question.Statement files label statements text status =
-    IsTextReply (TellsStatement files statements label) (IsStatementFault statements label) label
-    text status
 IsAnswerTo profile question.Minimized files label statements text status =
     IsTextReply (IsMinimized profile files statements label) (IsAskFault statements label) label
     text status
@@ -274,16 +271,21 @@ ListsShorter profile files statements text =
 
 -- ---- one theorem alone
 
--- The reply where no theorem is found at the label: the files can't be taken, or they are refused
--- before it is known what stands there; or no theorem stands there.
-abbrev pub IsNotFoundReply : List PlainFile → (label : List ℕ) → List ℕ → ℕ → Type 0
-IsNotFoundReply files label text status =
+-- The reply where the files can't be taken, or are refused before it is known what stands at the
+-- label.
+abbrev pub IsUnreadReply : List PlainFile → (label : List ℕ) → List ℕ → ℕ → Type 0
+IsUnreadReply files label text status =
     ((rule : Rule) × HasVerdict Lenient files (Load rule) × (text ≡ text_of files (Load rule))
     × (status ≡ status_of (Load rule)))
-    ⊎ (((refusal : PlainRefusal) × IsRefusedBefore files label refusal
+    ⊎ ((refusal : PlainRefusal) × IsRefusedBefore files label refusal
     × (text ≡ text_of files (Refused refusal)) × (status ≡ refusal_status refusal.rule))
+
+-- The reply where no theorem is found at the label: what stands there isn't known, or is none.
+abbrev pub IsNotFoundReply : List PlainFile → (label : List ℕ) → List ℕ → ℕ → Type 0
+IsNotFoundReply files label text status =
+    IsUnreadReply files label text status
     ⊎ ((rule : AskRule) × IsNoTheorem files label rule
-    × IsAskReply (ask.Rule rule) label text status))
+    × IsAskReply (ask.Rule rule) label text status)
 
 -- The proof of the `$p`, or what is known of it, is at fault: the lines of the steps before the
 -- fault, the refusal, and what explains it: the first line, with the place, and the facts.
@@ -344,6 +346,23 @@ IsLoneReply asked files label text status =
     ⊎ ((before : List PlainStatement) × (s : PlainStatement) × IsTheoremAt files label before s
     × IsLoneAnswer asked files before s text status)
 
+-- ---- one statement
+
+-- The reply tells the statement with the label, over those before it, which break no rule of meaning.
+-- What stands behind it, and how anything is proved, is left open.
+abbrev pub IsStatementText : List PlainFile → (label : List ℕ) → List ℕ → ℕ → Type 0
+IsStatementText files label text status =
+    (before : List PlainStatement) × (s : PlainStatement) × IsReadTo files label before s
+    × TellsStatement files (before ++ s ∷ []) label text × (status ≡ 0)
+
+-- The reply to the question what stands at a label: it is told, or it isn't known; or no statement of
+-- the files has the label, and none breaks a rule of meaning.
+abbrev pub IsStatementReply : List PlainFile → (label : List ℕ) → List ℕ → ℕ → Type 0
+IsStatementReply files label text status =
+    IsStatementText files label text status
+    ⊎ (IsUnreadReply files label text status
+    ⊎ (IsNoTheorem files label A1 × IsAskReply (ask.Rule A1) label text status))
+
 -- ---- commands
 
 -- a file that the command asks for by its number is one of those that are handed in, and a pattern
@@ -367,13 +386,15 @@ IsWholeReply AllShorter profile files text status =
     status
 
 -- This is the text and the status of the reply to a command. Questions about a theorem, and those for
--- a file, are answered where the lenient profile accepts the files; those about a theorem alone where
--- the statements up to it break no rule of meaning; and assertions are found where no statement does.
+-- a file, are answered where the lenient profile accepts the files; those about a theorem alone, or
+-- about a statement, where the statements up to it break no rule of meaning; and assertions are found
+-- where no statement does.
 abbrev pub IsReplyTo : List PlainFile → Command → List ℕ → ℕ → Type 0
 IsReplyTo files (Whole profile asked) text status = IsWholeReply asked profile files text status
 IsReplyTo files (About label asked) text status =
     IsQuestionReply Lenient files (IsAnswerTo Lenient asked files label.now) text status
 IsReplyTo files (Lone label asked) text status = IsLoneReply asked files label.now text status
+IsReplyTo files (Statement label) text status = IsStatementReply files label.now text status
 IsReplyTo files (File wanted number) text status =
     IsQuestionReply Lenient files (IsAllSavedReply wanted files number) text status
 IsReplyTo files (Shorter number duplicates) text status =

@@ -11,6 +11,7 @@ ghost use Rattle.mm_check.specs.declared.command.RunFault.TheVariants.{Memory};
 use crate::accepted::{Asked, checked_reply};
 use crate::alone::lone_reply;
 use crate::question::{LoneQuestion, Question, WholeQuestion};
+use crate::stated::statement_reply;
 use crate::whole::{all_saved_reply, whole_reply};
 use mm_base::{File, Seed};
 use mm_find::{Sought, find_reply};
@@ -42,6 +43,9 @@ pub enum Command<'a> {
         label: &'a [u8],
         question: LoneQuestion<'a>,
     },
+    /// Of the statement with this label, whatever its kind: where it stands, its frame and what it
+    /// says. What stands after it isn't read, and no proof is judged.
+    Statement(&'a [u8]),
     /// For the bytes of the handed file with this number, which is below the count of files, with
     /// each complete proof in this form.
     File {
@@ -111,6 +115,7 @@ pub fn reply_to<W: SearchWatch>(
             checked_reply(alloc, seed, Profile::Lenient, files, asked, watch)
         }
         Command::Lone { label, question } => lone_reply(alloc, seed, files, label, question),
+        Command::Statement(label) => statement_reply(alloc, seed, files, label),
         Command::File { form, file } => all_saved_reply(alloc, seed, files, *form, *file),
         Command::Shorter { file, duplicates } => {
             let asked = Asked::File(Wanted {

@@ -2,8 +2,9 @@
 //! It answers `run` and `reply_to`: files and a command in, the text and the status of the reply
 //! out. It stands on all crates that answer questions: verdict, axioms, texts, explanations,
 //! saving, shorter proofs. Begin with `command`, then `accepted` and `question` (of databases in
-//! which nothing is at fault), `whole` (of all faults, and of all proofs of a file) and `alone` (of
-//! one theorem, whatever its proof). What a reply is stands in `specs/Reply.antt`.
+//! which nothing is at fault), `whole` (of all faults, and of all proofs of a file), `alone` (of one
+//! theorem, whatever its proof) and `stated` (of one statement). What a reply is stands in
+//! `specs/Reply.antt`.
 #![tactic(auto)]
 
 mod accepted;
@@ -13,6 +14,7 @@ mod chain;
 mod checked_prefix;
 mod command;
 mod question;
+mod stated;
 mod whole;
 
 pub use alike::alike_files_have_one_reply;

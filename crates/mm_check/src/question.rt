@@ -24,8 +24,7 @@ use mm_axioms::{Report, all_users, axioms, direct_users, essential_axioms};
 use mm_frame::LabelId;
 use mm_minimize::{SearchWatch, minimized_by_library};
 use mm_render::{
-    is_same_proof, normal_form, packed_form, proof_listing, saved_file, small_form, statement_text,
-    uses_listing,
+    is_same_proof, normal_form, packed_form, proof_listing, saved_file, small_form, uses_listing,
 };
 use mm_rules::{AskFault, Status};
 use mm_verdict::{Checked, Form, Reply, ask_reply, push_label, push_labels};
@@ -46,7 +45,7 @@ pub enum WholeQuestion {
     Shorter,
 }
 
-/// A question about the theorem with a label, or about the assertion or the statement.
+/// A question about the theorem with a label, or about the assertion.
 #[derive(Clone, Copy, PartialEq, Eq, Debug)]
 pub enum Question<'a> {
     /// What it depends on; if `essential`, of the axioms those alone that have its type code.
@@ -66,9 +65,6 @@ pub enum Question<'a> {
     /// Of the assertion with the label: for the theorems whose proofs use it; if `all`, for those
     /// that depend on it.
     Users { all: bool },
-    /// Of the statement with the label, whatever its kind: where it stands, its frame and what it
-    /// says.
-    Statement,
     /// For the small text of its shortest proof by what the library has.
     Minimized,
 }
@@ -355,7 +351,6 @@ pub(crate) fn answer_to<W: SearchWatch>(
         Question::Users { all } => {
             text_reply(alloc, label, users_text(alloc, checked, label, *all))
         }
-        Question::Statement => text_reply(alloc, label, statement_text(alloc, checked, label)),
         Question::Minimized => {
             text_reply(
                 alloc,

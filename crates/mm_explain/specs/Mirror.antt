@@ -5,4 +5,5 @@ pub mod Reached
 pub mod Reasons
 pub mod Standing
 pub mod SemanticErrors
+pub mod Stated
 pub mod Last

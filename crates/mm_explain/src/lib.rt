@@ -15,11 +15,13 @@ mod place_lines;
 pub mod read_to;
 mod scope;
 mod semantic_error;
+mod statement_at;
 mod text_fault;
 mod trial;
 mod why;
 
 pub use label_suggestion::nearest_label;
 pub use read_to::{Reached, Unreached};
+pub use statement_at::{Stated, read_statement};
 pub use trial::{judged_steps, try_reply};
 pub use why::{Unaccepted, explained, push_head};

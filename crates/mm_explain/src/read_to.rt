@@ -64,7 +64,7 @@ impl<'a> From<AskRule> for Unreached<'a> {
 
 /// Reads and takes statements up to one with this label: what that one was taken as, or nothing
 /// where no statement has it.
-fn take_to<'a>(
+pub(crate) fn take_to<'a>(
     files: &[File<'a>],
     statements: &mut Statements<'a>,
     progress: &mut Progress<'a>,

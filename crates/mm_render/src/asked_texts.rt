@@ -10,13 +10,17 @@ ghost use Rattle.mm_rules.specs.Rests.{IsAskFault};
 ghost use Rattle.mm_render.specs.Saved.{IsSaved, FitsSaved, IsSaveFault};
 ghost use Rattle.mm_render.specs.Shown.{ShowsProof};
 ghost use Rattle.mm_render.specs.ShownUses.{ShowsUses};
-ghost use Rattle.mm_verdict.specs.Stated.{IsStatementFault, TellsStatement};
+ghost use Rattle.mm_verdict.specs.Stated.{TellsStatement};
 ghost use Rattle.mm_rules.specs.declared.ask.AskFault.TheVariants.{Memory};
 ghost use Rattle.mm_verdict.specs.declared.form.Form.TheVariants.{Small};
 ghost use Rattle.mm_text.specs.Reading.{Reads};
-ghost use Rattle.mm_base.specs.Statement.{PlainStatement};
+ghost use Rattle.mm_base.specs.Statement.{PlainStatement, plain_statement};
+ghost use Rattle.mm_text.specs.Files.{plain_file};
+ghost use Rattle.mm_frame.specs.Numbers.{IsNumbered, labelled_sentences};
+ghost use Rattle.mm_frame.specs.Sentence.{sentence_of, IsLabelled};
+ghost use Rattle.mm_rules.specs.Verdict.{sentences};
 ghost use Rattle.std.specs.Prelude.{None, IfOk, IfErr};
-ghost use Rattle.std.specs.Prelude.{◌≡◌, ◌<◌, List};
+ghost use Rattle.std.specs.Prelude.{◌≡◌, ◌<◌, ◌∷◌, ◌++◌, [], ℕ, List, map, length};
 
 use crate::comparison::is_same;
 use crate::forms::{OwnProof, normal_text, own_proof, packed_text, small_text, span_text};
@@ -24,38 +28,37 @@ use crate::listing_lines::listing_text;
 use crate::rewrite::{bytes_of, put_in};
 use crate::statement_lines::push_told;
 use crate::uses_lines::uses_text;
+use mm_base::{File, Statement};
+use mm_frame::{Book, LabelId};
 use mm_rules::{AskFault, place_of, push_place};
-use mm_verdict::reread::reread;
 use mm_verdict::{Checked, Form, Theorem};
 use std::alloc::{AllocError, Global};
 
-/// What is told of the statement with this label: a line with the place of its first token; of
-/// an assertion, a line for each mandatory hypothesis and each mandatory pair, and of a `$p` one
-/// for each `$d` that says more; and a line of the statement itself.
-///
-/// # Errors
-///
-/// `A1` where no statement has the label; `Memory` where a growth was refused.
-pub fn statement_text(alloc: Global, checked: &Checked, label: &[u8]) -> Result<Vec<u8>, AskFault>
-    ensures told { IfOk result (λ text. (statements : List PlainStatement)
-        → Reads checked.now.files statements None
-        → TellsStatement checked.now.files statements label.now text.items) }
-    ensures fault { IfErr result (λ fault. (statements : List PlainStatement)
-        → Reads checked.now.files statements None
-        → IsStatementFault statements label.now fault) }
+/// What is told of the labelled statement with this number, which a book has last: a line with the
+/// place of its first token; of an assertion, a line for each mandatory hypothesis and each
+/// mandatory pair, and of a `$p` one for each `$d` that says more; and a line of the statement
+/// itself.
+pub fn statement_text(
+    alloc: Global,
+    files: &[File],
+    book: &Book,
+    id: LabelId,
+    statement: &Statement,
+) -> Result<Vec<u8>, AllocError>
+    requires { id.0 < length (labelled_sentences book.now.statements) }
+    ensures { IfOk result (λ text. (before : List PlainStatement) (label : List ℕ)
+        → book.now.statements ≡ sentences (before ++ plain_statement statement.now ∷ [])
+        → IsNumbered book.now.statements id.0 (length before)
+        (sentence_of (plain_statement statement.now))
+        → IsLabelled label (sentence_of (plain_statement statement.now))
+        → TellsStatement (map plain_file files.now) (before ++ plain_statement statement.now ∷ [])
+        label text.items) }
 {
-    let files = checked.files;
-    let id = checked.labelled(label)?;
-    let statement = reread(alloc, checked.book.seed(), files, label)?;
-    let first = statement.first;
+    let at = statement.first.at as usize;
     let mut out = Vec::new(alloc);
-    push_place(
-        &mut out,
-        files,
-        place_of(files, first.file, first.at as usize),
-    )?;
+    push_place(&mut out, files, place_of(files, statement.first.file, at))?;
     out.push(b'\n')?;
-    push_told(&mut out, alloc, &checked.book, id)?;
+    push_told(&mut out, alloc, book, id)?;
     Ok(out)
 }
 

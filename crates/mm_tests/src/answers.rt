@@ -97,6 +97,7 @@ fn label_of<'a>(command: &Command<'a>) -> &'a [u8] {
         Command::Whole { .. } | Command::File { .. } | Command::Shorter { .. } => b"",
         Command::Find { .. } => b"",
         Command::About { label, .. } | Command::Lone { label, .. } => label,
+        Command::Statement(label) => label,
     }
 }
 

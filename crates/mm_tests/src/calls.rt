@@ -10,3 +10,4 @@ mod near;
 mod profiles;
 mod save;
 mod shorter;
+mod stated;

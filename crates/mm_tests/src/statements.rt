@@ -2,8 +2,7 @@
 
 use crate::Case;
 use crate::Part::Text;
-use mm_check::Command::{self, About};
-use mm_check::Question;
+use mm_check::Command::{self, Statement};
 
 /// Hypotheses in blocks, and `$d` that are mandatory, that say more, and that aren't active.
 const LOGIC: &[u8] = b"\
@@ -63,12 +62,9 @@ $}
 ";
 
 /// What stands at a label.
-pub(crate) const STATEMENTS: [(Command<'static>, Case); 11] = [
+pub(crate) const STATEMENTS: [(Command<'static>, Case); 17] = [
     (
-        About {
-            label: b"wph",
-            question: Question::Statement,
-        },
+        Statement(b"wph"),
         Case {
             name: "a hypothesis that types a variable",
             files: &[(b"l.mm", &[Text(LOGIC)])],
@@ -77,10 +73,7 @@ pub(crate) const STATEMENTS: [(Command<'static>, Case); 11] = [
         },
     ),
     (
-        About {
-            label: b"maj",
-            question: Question::Statement,
-        },
+        Statement(b"maj"),
         Case {
             name: "an essential hypothesis in a block",
             files: &[(b"l.mm", &[Text(LOGIC)])],
@@ -89,10 +82,7 @@ pub(crate) const STATEMENTS: [(Command<'static>, Case); 11] = [
         },
     ),
     (
-        About {
-            label: b"wi",
-            question: Question::Statement,
-        },
+        Statement(b"wi"),
         Case {
             name: "an axiom of syntax",
             files: &[(b"l.mm", &[Text(LOGIC)])],
@@ -101,10 +91,7 @@ pub(crate) const STATEMENTS: [(Command<'static>, Case); 11] = [
         },
     ),
     (
-        About {
-            label: b"ax-mp",
-            question: Question::Statement,
-        },
+        Statement(b"ax-mp"),
         Case {
             name: "hypotheses in the order of the database",
             files: &[(b"l.mm", &[Text(LOGIC)])],
@@ -113,10 +100,7 @@ pub(crate) const STATEMENTS: [(Command<'static>, Case); 11] = [
         },
     ),
     (
-        About {
-            label: b"ax-d",
-            question: Question::Statement,
-        },
+        Statement(b"ax-d"),
         Case {
             name: "a mandatory pair, and nothing more of an axiom",
             files: &[(b"l.mm", &[Text(LOGIC)])],
@@ -125,10 +109,7 @@ pub(crate) const STATEMENTS: [(Command<'static>, Case); 11] = [
         },
     ),
     (
-        About {
-            label: b"none",
-            question: Question::Statement,
-        },
+        Statement(b"none"),
         Case {
             name: "no statement",
             files: &[(b"l.mm", &[Text(LOGIC)])],
@@ -137,10 +118,7 @@ pub(crate) const STATEMENTS: [(Command<'static>, Case); 11] = [
         },
     ),
     (
-        About {
-            label: b"th",
-            question: Question::Statement,
-        },
+        Statement(b"th"),
         Case {
             name: "what says more than the mandatory pairs of a theorem",
             files: &[(b"l.mm", &[Text(BLOCKS)])],
@@ -149,10 +127,7 @@ pub(crate) const STATEMENTS: [(Command<'static>, Case); 11] = [
         },
     ),
     (
-        About {
-            label: b"u",
-            question: Question::Statement,
-        },
+        Statement(b"u"),
         Case {
             name: "no hypothesis of a block that is closed",
             files: &[(b"l.mm", &[Text(BLOCKS)])],
@@ -161,10 +136,7 @@ pub(crate) const STATEMENTS: [(Command<'static>, Case); 11] = [
         },
     ),
     (
-        About {
-            label: b"q",
-            question: Question::Statement,
-        },
+        Statement(b"q"),
         Case {
             name: "an unproved theorem",
             files: &[(b"l.mm", &[Text(BLOCKS)])],
@@ -173,10 +145,7 @@ pub(crate) const STATEMENTS: [(Command<'static>, Case); 11] = [
         },
     ),
     (
-        About {
-            label: b"a",
-            question: Question::Statement,
-        },
+        Statement(b"a"),
         Case {
             name: "a statement in an included file",
             files: &[
@@ -188,15 +157,69 @@ pub(crate) const STATEMENTS: [(Command<'static>, Case); 11] = [
         },
     ),
     (
-        About {
-            label: b"a",
-            question: Question::Statement,
-        },
+        Statement(b"a"),
         Case {
-            name: "a database that is refused",
+            name: "a statement before a fault of meaning",
+            files: &[(b"l.mm", &[Text(b"$c x $. a $a x $. $c x $.\n")])],
+            reply: b"l.mm:1:9\na $a x\n",
+            status: 0,
+        },
+    ),
+    (
+        Statement(b"a"),
+        Case {
+            name: "a statement before a fault of the text",
+            files: &[(b"l.mm", &[Text(b"$c x $. a $a x $. b $a x\n")])],
+            reply: b"l.mm:1:9\na $a x\n",
+            status: 0,
+        },
+    ),
+    (
+        Statement(b"b"),
+        Case {
+            name: "a statement behind a fault of meaning",
+            files: &[(b"l.mm", &[Text(b"$c x $. a $a x $. $c x $. b $a x $.\n")])],
+            reply: b"no l.mm 1 - M2 0\n",
+            status: 1,
+        },
+    ),
+    (
+        Statement(b"b"),
+        Case {
+            name: "a statement that breaks a rule of meaning",
+            files: &[(b"l.mm", &[Text(b"$c x $.\nb $a y $.\n")])],
+            reply: b"no l.mm 2 b M7 0\n",
+            status: 1,
+        },
+    ),
+    (
+        Statement(b"c"),
+        Case {
+            name: "no statement, where one behind breaks a rule of meaning",
             files: &[(b"l.mm", &[Text(b"$c x $. a $a x $. $c x $.\n")])],
             reply: b"no l.mm 1 - M2 0\n",
             status: 1,
+        },
+    ),
+    (
+        Statement(b"q"),
+        Case {
+            name: "a theorem with a faulty proof, behind another",
+            files: &[(
+                b"l.mm",
+                &[Text(b"$c x y $. a $a x $.\np $p y $= a $.\nq $p y $= nope $.\n")],
+            )],
+            reply: b"l.mm:3:1\nq $p y\n",
+            status: 0,
+        },
+    ),
+    (
+        Statement(b"a"),
+        Case {
+            name: "two files with one name",
+            files: &[(b"l.mm", &[Text(b"$c x $.\n")]), (b"l.mm", &[Text(b"")])],
+            reply: b"load F2\n",
+            status: 4,
         },
     ),
 ];

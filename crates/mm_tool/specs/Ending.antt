@@ -16,7 +16,7 @@ use Rattle.mm_minimize.specs.declared.search_watch.Searched.{Searched}
 use Rattle.mm_check.specs.declared.command.Command.{Command}
 use Rattle.mm_code.specs.Layout.{texts}
 use Rattle.mm_check.specs.declared.command.Command.TheVariants.{Whole, About, File, Lone, Shorter}
-use Rattle.mm_check.specs.declared.command.Command.TheVariants.{Find}
+use Rattle.mm_check.specs.declared.command.Command.TheVariants.{Find, Statement}
 use Rattle.mm_check.specs.declared.question.Question.TheVariants.{Same}
 use Rattle.mm_check.specs.declared.question.LoneQuestion.TheVariants as lone
 use Rattle.mm_tool.specs.declared.words.TextQuestion.{TextQuestion}
@@ -70,6 +70,7 @@ abbrev pub label_of : Command → Option Text
 label_of (Whole profile question) = None
 label_of (About label question) = Some label.now
 label_of (Lone label question) = Some label.now
+label_of (Statement label) = Some label.now
 label_of (File form number) = None
 label_of (Shorter number duplicates) = None
 label_of (Find patterns whole hypotheses) = None

@@ -20,6 +20,7 @@ use Rattle.mm_base.specs.MostBytes.{most_bytes}
 use Rattle.mm_code.specs.Layout.{texts}
 use Rattle.mm_check.specs.declared.command.Command.{Command}
 use Rattle.mm_check.specs.declared.command.Command.TheVariants.{Whole, About, File, Find, Lone}
+use Rattle.mm_check.specs.declared.command.Command.TheVariants.{Statement}
 use Rattle.mm_check.specs.declared.command.Command.TheVariants as commands
 use Rattle.mm_check.specs.declared.question.Question.{Question}
 use Rattle.mm_check.specs.declared.question.Question.TheVariants as question
@@ -557,7 +558,7 @@ AsksWhole words Axioms profile names =
 AsksWhole words Shorter profile names =
     (profile ≡ Lenient) × AsksMinimize words false true false names
 
--- They ask this question about the statement with this label in the files with these names, of which
+-- They ask this question about the assertion with this label in the files with these names, of which
 -- there is one at least: on which axioms a theorem rests by `axioms`, and by a flag which of these
 -- have its type code, or why it rests on one; how a theorem is proved by `show` without a flag, and
 -- by a flag what the steps of its proof use, or the essential ones. No words alone ask to compare a
@@ -574,8 +575,6 @@ AsksAbout words label (question.Form form whole) names =
     AsksForm (name_of_form form) words label whole names
 AsksAbout words label (question.Same text) names = ⊥
 AsksAbout words label (question.Users all) names = AsksUsers words label all names
-AsksAbout words label question.Statement names =
-    AsksStatement words false (label ∷ names) × (names ≢ [])
 AsksAbout words label question.Minimized names = AsksMinimized words label names
 
 -- They ask this question about the theorem with this label alone: by `show --known` for the steps that
@@ -590,6 +589,8 @@ abbrev pub AsksRun : List Text → Command → List Text → Type 0
 AsksRun words (Whole profile asked) names = AsksWhole words asked profile names
 AsksRun words (About label asked) names = AsksAbout words label.now asked names
 AsksRun words (Lone label asked) names = AsksLone words label.now asked names
+AsksRun words (Statement label) names =
+    AsksStatement words false (label.now ∷ names) × (names ≢ [])
 AsksRun words (File form number) names = AsksAll words form number names
 AsksRun words (commands.Shorter number duplicates) names =
     AsksShorterFile words number duplicates names

@@ -153,12 +153,12 @@ Example:
 const STATEMENT: &str = "Usage: mm statement LABEL FILES..
        mm statement --all FILES..
 
-Checks the database, and tells what stands at this label: a statement of any
-kind, and of an axiom or a theorem its frame.
+Tells what stands at this label: a statement of any kind, and of an axiom or a
+theorem its frame. No proof is judged, and nothing behind the statement is read:
+so it answers where a proof, or what stands further down, is at fault.
 
 Options:
-  --all   a line for each axiom and each theorem, as `mm find` prints it. No
-          proof is judged
+  --all   a line for each axiom and each theorem, as `mm find` prints it
 
 Replies:
   FILE:LINE:COLUMN, and then lines as in the file, with no end      status 0
@@ -169,8 +169,9 @@ Replies:
   LABEL KIND : HYPOTHESIS & .. => EXPRESSION, with --all            status 0
   ask A1 LABEL                                                      status 1
       No statement has this label.
-  no, limit or load                                                 status 1, 4
-      The database is refused: `mm help check`.
+  no or load                                                        status 1, 4
+      A statement breaks a rule of the text or of meaning before this is known:
+      `mm help check`.
 
 Examples:
   mm statement ax-mp set.mm

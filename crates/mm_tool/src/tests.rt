@@ -210,10 +210,7 @@ fn asks_by_its_words(rt: HostRuntime) {
         profile: Profile::Lenient,
         question: WholeQuestion::Axioms,
     };
-    let statement = Command::About {
-        label: b"th".as_slice(),
-        question: Question::Statement,
-    };
+    let statement = Command::Statement(b"th".as_slice());
     for (words, wanted) in [
         (["mm", "why", "first.mm"].as_slice(), why(Profile::Lenient)),
         (["mm", "axioms", "th", "first.mm"].as_slice(), axioms),

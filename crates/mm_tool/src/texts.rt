@@ -45,8 +45,8 @@ Commands:
                          checks the database, and lists the theorems whose proofs use the assertion
                          with this label; with --all those that rest on it
   statement LABEL FILES..
-                         checks the database, and tells what stands at this label, a statement of
-                         any kind: where it begins, its frame, and what it says
+                         tells what stands at this label, a statement of any kind: where it begins,
+                         its frame, and what it says, whatever the proofs
   statement --all FILES..
                          lists each axiom and each theorem in a line, whatever their proofs
   find PATTERN [--and PATTERN].. [--whole] [--hypotheses] FILES..

@@ -29,6 +29,7 @@ pub(crate) fn asked_label<'a>(command: &Command<'a>) -> Option<&'a [u8]>
         | Command::Shorter { .. }
         | Command::Find { .. } => None,
         Command::About { label, .. } | Command::Lone { label, .. } => Some(*label),
+        Command::Statement(label) => Some(*label),
     }
 }
 

@@ -433,10 +433,7 @@ fn statement_request<'a>(alloc: Global, matches: &ArgMatches<'a>) -> Result<Requ
         return Ok(assertions_request(words));
     }
     let (label, names) = label_and_names(alloc, &words, STATEMENT_USE)?;
-    let command = mm_check::Command::About {
-        label: label.as_bytes(),
-        question: Question::Statement,
-    };
+    let command = mm_check::Command::Statement(label.as_bytes());
     Ok(Request::Run { command, names })
 }
 

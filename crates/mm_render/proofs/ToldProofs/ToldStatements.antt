@@ -11,7 +11,7 @@ use Rattle.mm_base.specs.declared.statement.Kind.{Kind}
 use Rattle.mm_base.specs.declared.statement.Kind.TheVariants.{Provable}
 use Rattle.mm_text.specs.Files.{PlainFile}
 use Rattle.mm_base.specs.Statement.{PlainStatement, keyword_of}
-use Rattle.mm_base.proofs.Lists.{contains_from_at, one_there, take_next}
+use Rattle.mm_base.proofs.Lists.{contains_from_at, get_parted, one_there, take_next}
 use Rattle.mm_frame.specs.declared.distinct.DistinctPair.{DistinctPair}
 use Rattle.mm_frame.specs.declared.number.LabelKind.{LabelKind}
 use Rattle.mm_frame.specs.declared.number.LabelKind.TheVariants as label_kinds
@@ -20,7 +20,6 @@ use Rattle.mm_frame.specs.Frame.{AreFurther}
 use Rattle.mm_frame.specs.FrameIndex.{FrameIndex, AreFurtherIndices, AreHypotheses, ArePairs}
 use Rattle.mm_frame.specs.Numbers.{AreNumbers, IsAssertionNumber, IsNumbered, IsNumberOf}
 use Rattle.mm_frame.specs.Numbers.{labelled_sentences, symbols_of}
-use Rattle.mm_frame.specs.Rules.{AllMeant}
 use Rattle.mm_frame.specs.Taken.{kind_behind}
 use Rattle.mm_frame.proofs.Names.LabelNumbers.{numbered_get, numbered_some}
 use Rattle.mm_frame.proofs.Names.LabelNumbers.{numbered_unique}
@@ -29,15 +28,13 @@ use Rattle.mm_step.specs.Mirror.CodeVerify.{name_at}
 use Rattle.mm_step.proofs.ByNumbers.NumberedSymbols.{name_is}
 use Rattle.mm_rules.specs.Answer.{labels_at}
 use Rattle.mm_rules.specs.Mirror.Explaining.{named_pairs}
-use Rattle.mm_rules.specs.Shown.{symbols_text, Stands}
+use Rattle.mm_rules.specs.Shown.{symbols_text}
 use Rattle.mm_verdict.specs.Stated.{IsFrameText, IsTextBefore, TellsStatement, further_line, pair_line}
 use Rattle.mm_verdict.specs.Stated.{statement_line}
 use Rattle.mm_rules.specs.Places.{place_of, place_text}
-use Rattle.mm_rules.specs.Rests.{IsNamed}
 use Rattle.mm_rules.specs.Verdict.{sentences}
 use Rattle.mm_rules.proofs.Numbers.{names_at}
 use Rattle.mm_rules.proofs.PairsNamed.{pairs_mandatory}
-use Rattle.mm_verdict.proofs.Verdicts.AcceptedStatements.{one_stands}
 
 -- ---- one line
 
@@ -234,27 +231,26 @@ module _ {st : List Sentence} {id index : ℕ} {s : Sentence} (numbered : IsNumb
 
 -- ---- the statement with the label
 
--- What is told of the statement that is read again under the label is what is told of it.
-pub tells_statement : (files : List PlainFile) (statements : List PlainStatement) (label : List ℕ)
-    (t : PlainStatement) (id : ℕ) (o₁ o₂ o₃ : List ℕ) → AllMeant (sentences statements)
-    → IsNamed statements label (λ s. Unit {0}) id → Stands statements label t
-    → o₁ ≡ place_text files (place_of files t.first.file t.first.at) → o₂ ≡ o₁ ++ 10 ∷ []
-    → ((index : ℕ) (s : Sentence) → IsNumbered (sentences statements) id index s → (lines : List ℕ)
-    × IsTextBefore s.kind (take index (sentences statements)) s lines
-    × (o₃ ≡ o₂ ++ lines ++ statement_line s))
-    → TellsStatement files statements label o₃
-tells_statement files statements label t id o₁ o₂ o₃ meant (index, s, at, named) stands h₁ h₂ told =
-    let one : t ≡ s = one_stands statements label index s t meant at.there named.0 stands in
-    let (lines, before, h₃) = told index (sentence_of s) at.numbered in
+-- What is told of the statement that a book has last is what is told of it.
+pub tells_last : (files : List PlainFile) (before : List PlainStatement) (s : PlainStatement)
+    (label : List ℕ) (st : List Sentence) (id : ℕ) (o₁ o₂ o₃ : List ℕ)
+    → st ≡ sentences (before ++ s ∷ []) → IsNumbered st id (length before) (sentence_of s)
+    → IsLabelled label (sentence_of s)
+    → o₁ ≡ place_text files (place_of files s.first.file s.first.at) → o₂ ≡ o₁ ++ 10 ∷ []
+    → ((index : ℕ) (t : Sentence) → IsNumbered st id index t → (lines : List ℕ)
+    × IsTextBefore t.kind (take index st) t lines × (o₃ ≡ o₂ ++ lines ++ statement_line t))
+    → TellsStatement files (before ++ s ∷ []) label o₃
+tells_last files before s label st id o₁ o₂ o₃ book numbered named h₁ h₂ told =
+    let (lines, text, h₃) = told (length before) (sentence_of s) numbered in
     record {
-      index = index;
+      index = length before;
       s = s;
-      there = at.there;
-      named = named.0;
+      there = get_parted before [] s;
+      named = named;
       lines = lines;
       before = subst (λ (ss : List Sentence). IsTextBefore s.kind ss (sentence_of s) lines)
-          (take-map sentence_of index statements) before;
+          (ap (λ (ss : List Sentence). take (length before) ss) book
+          ∙ take-map sentence_of (length before) (before ++ s ∷ [])) text;
       said = h₃ ∙ ap (λ (l : List ℕ). l ++ lines ++ statement_line (sentence_of s))
-          (h₂ ∙ ap (λ (l : List ℕ). l ++ 10 ∷ [])
-          (h₁ ∙ ap (λ (u : PlainStatement). place_text files (place_of files u.first.file u.first.at)) one));
+          (h₂ ∙ ap (λ (l : List ℕ). l ++ 10 ∷ []) h₁);
     }

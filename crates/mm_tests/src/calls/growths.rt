@@ -10,8 +10,7 @@ use mm_base::{File, Seed};
 use mm_check::{Command, Question, RunFault, WholeQuestion, run};
 use mm_core_tests::databases::{DEMO, DEMO_COMPRESSED, DEMO_SMALL};
 use mm_render::{
-    SaveFault, is_same_proof, normal_form, packed_form, proof_listing, small_form, statement_text,
-    uses_listing,
+    SaveFault, is_same_proof, normal_form, packed_form, proof_listing, small_form, uses_listing,
 };
 use mm_rules::{AskFault, CheckFault, Status};
 use mm_save::{saved, saved_all};
@@ -188,7 +187,6 @@ fn answer_to(
         // No command of these tests asks for it.
         Question::Chain(_) => Ok(Vec::new(alloc)),
         Question::Users { all } => users_text(alloc, checked, label, *all),
-        Question::Statement => statement_text(alloc, checked, label),
         // It is asked by a command alone, so this is what is told where no search finds anything.
         Question::Minimized => small_form(alloc, checked, label),
     }
@@ -250,7 +248,6 @@ fn growths_of_calls(rt: HostRuntime) -> Result<(), Fail> {
         whole: false,
     };
     let uses = Question::Uses { essential: true };
-    let statement = Question::Statement;
     let asked = [
         Question::Axioms { essential: false },
         Question::Show,
@@ -259,7 +256,6 @@ fn growths_of_calls(rt: HostRuntime) -> Result<(), Fail> {
         packed,
         small,
         same,
-        statement,
     ];
     let checked = checked_on(rt.alloc(), &FILES)?;
     let answer = answers_alike(rt.alloc(), &checked, label, &asked);

@@ -7,7 +7,6 @@ use Rattle.mm_axioms.specs.Users.{IsAssertionFault}
 use Rattle.mm_render.specs.Shown.{ShowsProof}
 use Rattle.mm_render.specs.ShownUses.{ShowsUses}
 use Rattle.mm_render.specs.Shorter.{IsMinimized}
-use Rattle.mm_verdict.specs.Stated.{IsStatementFault, TellsStatement}
 use Rattle.mm_check.specs.Reply.{IsFormText, IsFormTextFault, ListsUsers}
 use Rattle.mm_check.proofs.AnswersTold.{text_told}
 use Rattle.mm_check.proofs.question.answer_to.Goals as goal
@@ -61,15 +60,6 @@ returns-in-Users g c =
     (λ statements text. ListsUsers c.in-Users.all statements label text)
     (λ statements fault. IsAssertionFault statements label fault) _ _
     c.users_text.ensures.text c.users_text.ensures.fault c.text_reply-in-Users.ensures)
-
-pub returns-in-Statement : goal.returns-in-Statement
-returns-in-Statement g c =
-    let label : List ℕ = c.args.label.now in
-    let files : List PlainFile = c.args.checked.now.files in
-    rw c.in-Statement.is
-    (text_told files label (λ statements text. TellsStatement files statements label text)
-    (λ statements fault. IsStatementFault statements label fault) _ _
-    c.statement_text.ensures.told c.statement_text.ensures.fault c.text_reply-in-Statement.ensures)
 
 pub returns-in-Minimized : goal.returns-in-Minimized
 returns-in-Minimized g c =
