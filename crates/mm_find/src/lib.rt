@@ -13,5 +13,6 @@ mod reply;
 mod shape;
 
 pub use found::find;
+pub use line::{push_premises, push_words};
 pub use query::{Query, shape_of};
 pub use reply::{Sought, find_reply};

@@ -26,7 +26,7 @@ fn keyword(kind: Kind) -> &'static [u8]
 }
 
 /// Appends a space and the word, for each of these words.
-fn push_words(out: &mut Vec<u8>, words: &[&[u8]]) -> Result<(), AllocError>
+pub fn push_words(out: &mut Vec<u8>, words: &[&[u8]]) -> Result<(), AllocError>
     ensures { OnOk result (out.new.items ≡ out.old.items ++ symbols_text (texts words.now)) }
 {
     for word in words {
@@ -44,7 +44,7 @@ fn sign_before(count: usize) -> &'static [u8]
 }
 
 /// Appends the words of hypotheses, each with its sign behind it.
-fn push_premises(out: &mut Vec<u8>, hypotheses: &[Vec<&[u8]>]) -> Result<(), AllocError>
+pub fn push_premises(out: &mut Vec<u8>, hypotheses: &[Vec<&[u8]>]) -> Result<(), AllocError>
     ensures { OnOk result (out.new.items
         ≡ out.old.items ++ symbols_text (premises (expressions_in hypotheses.now))) }
 {
