@@ -1,1 +1,3 @@
 pub mod WithLemmas
+pub mod Told
+pub mod Mirror

@@ -15,6 +15,7 @@ use crate::trial::{Changed, Draft, LEAST_PLACES, Spot, Trial, uses_in};
 use mm_frame::{Book, Hypothesis, LabelId};
 use mm_proof::Steps;
 use mm_step::{Call, call_of};
+use mm_verdict::{SoFar, Watch};
 use std::alloc::{AllocError, Global};
 use std::collections::BinaryHeap;
 
@@ -125,16 +126,21 @@ impl Search {
 
     /// The lemmas that save most, the best first: each saves what it is told to save after those
     /// before it. Those that something says already are told, and left aside. It is asked once.
-    /// Fewer are found where the budget is used up.
+    /// Fewer are found where the budget is used up. The watch is told of each that is found.
     ///
     /// # Errors
     ///
     /// Where a growth was refused.
-    pub fn lemmas(&mut self, wanted: Wanted, budget: &mut Budget) -> Result<Vec<Lemma>, AllocError>
+    pub fn lemmas<W: Watch>(
+        &mut self,
+        wanted: Wanted,
+        budget: &mut Budget,
+        watch: &mut W,
+    ) -> Result<Vec<Lemma>, AllocError>
         ensures { budget.new ≤ budget.old }
     {
         let mut lemmas = Vec::new(self.library.alloc);
-        match self.find(&mut lemmas, wanted, budget) {
+        match self.find(&mut lemmas, wanted, budget, watch) {
             Ok(()) => Ok(lemmas),
             Err(error) => {
                 drop(lemmas);
@@ -144,16 +150,18 @@ impl Search {
     }
 
     // Finds lemmas, as long as one waits.
-    fn find(
+    fn find<W: Watch>(
         &mut self,
         lemmas: &mut Vec<Lemma>,
         wanted: Wanted,
         budget: &mut Budget,
+        watch: &mut W,
     ) -> Result<(), AllocError>
         ensures { budget.new ≤ budget.old }
     {
         self.measure_each(budget)?;
         self.wait_all(wanted, budget)?;
+        let mut bytes = 0u64;
         for _ in 0..budget.left() {
             if lemmas.len() >= wanted.most || !budget.take(1) {
                 break;
@@ -162,10 +170,22 @@ impl Search {
                 break;
             };
             if let Some(lemma) = self.attempt(next.number, wanted, budget)? {
+                bytes = bytes.saturating_add(lemma.saved);
                 lemmas.push(lemma)?;
+                watch.told(self.so_far(lemmas.len(), wanted, bytes));
             }
         }
         Ok(())
+    }
+
+    // How far the search has come, which has found so many lemmas that save so many bytes.
+    fn so_far(&self, lemmas: usize, wanted: Wanted, bytes: u64) -> SoFar {
+        let of = lemmas.saturating_add(self.waiting.len());
+        SoFar {
+            theorems: lemmas,
+            of: of.min(wanted.most),
+            bytes: bytes as usize,
+        }
     }
 
     // Measures all proofs, and notes their digrams.

@@ -3,4 +3,4 @@ use Rattle.std.proofs.Common.{◌≤◌}
 use Rattle.mm_lemmas.proofs.search.Search.find.Given as goal
 
 abbrev pub invariant-loop : goal.invariant-loop
-invariant-loop l = l.budget ≤ l.initial.budget
+invariant-loop g l = l.budget ≤ l.initial.budget
