@@ -5,7 +5,7 @@ ghost use Rattle.mm_text.specs.Files.{plain_file};
 ghost use Rattle.mm_text.specs.LineNumbers.{line_in, line_of as line_at};
 ghost use Rattle.mm_base.specs.Token.{plain_token};
 ghost use Rattle.mm_rules.specs.Places.{bytes_of as bytes_at, bytes_since_feed};
-ghost use Rattle.mm_rules.specs.Places.{column_of as column_at};
+ghost use Rattle.mm_rules.specs.Places.{column_in, column_of as column_at};
 ghost use Rattle.mm_rules.specs.Places.{name_of as name_at, place_of as place_at, place_text};
 
 use crate::words::push_decimal;
@@ -62,66 +62,6 @@ pub fn line_of(files: &[File], file: usize, at: usize) -> usize
     line_from(bytes_of(files, file), 0, 1, at)
 }
 
-/// The lines of the files. They are counted on from the position that was asked for last, where the
-/// next one stands behind it in the same file.
-#[derive(Drop)]
-pub struct LineCount<'a> {
-    files: &'a [File<'a>],
-    /// The position that was asked for last, and its line.
-    file: usize,
-    at: usize,
-    line: usize,
-}
-
-impl<'a> Model for LineCount<'a> {
-    ghost use Rattle.std.specs.Prelude.{◌≡◌, List, map};
-    ghost use Rattle.mm_text.specs.Files.{PlainFile, plain_file};
-    ghost use Rattle.mm_text.specs.LineNumbers.{line_of as line_at};
-
-    ghost Value = { List PlainFile };
-
-    ghost view = { λ c. map plain_file c.files.now };
-
-    ghost invariant = { λ c. c.line ≡ line_at (map plain_file c.files.now) c.file c.at };
-}
-
-impl<'a> LineCount<'a> {
-    /// The lines of these files.
-    pub fn new(files: &'a [File<'a>]) -> LineCount<'a>
-        ensures { result ≡ map plain_file files.now }
-    {
-        LineCount {
-            files,
-            file: 0,
-            at: 0,
-            line: 1,
-        }
-    }
-
-    /// The line of a position, counted on where it can be.
-    fn counted_line(&self, file: usize, at: usize) -> usize
-        ensures { result ≡ line_at self.now file at }
-    {
-        let bytes = bytes_of(self.files, file);
-        if file == self.file && self.at <= at {
-            line_from(bytes, self.at, self.line, at)
-        } else {
-            line_from(bytes, 0, 1, at)
-        }
-    }
-
-    /// The line, from 1, of a position in one of the files, as `line_of` tells it.
-    pub fn line_of(&mut self, file: usize, at: usize) -> usize
-        ensures line { result ≡ line_at self.old file at }
-        ensures files { self.new ≡ self.old }
-    {
-        self.line = self.counted_line(file, at);
-        self.file = file;
-        self.at = at;
-        self.line
-    }
-}
-
 /// The name of a file; nothing where there is none.
 pub fn name_of<'a>(files: &[File<'a>], file: usize) -> &'a [u8]
     ensures { result.now ≡ name_at (map plain_file files.now) file }
@@ -154,6 +94,21 @@ fn count_since_feed(bytes: &[u8]) -> usize
         .count()
 }
 
+/// The column of a position in a text, counted on from that of a position before it.
+fn column_from(bytes: &[u8], before: usize, column: usize, at: usize) -> usize
+    requires before { before ≤ at }
+    requires column { column ≡ column_in bytes.now before }
+    ensures { result ≡ column_in bytes.now at }
+{
+    let passed = bytes_from(bytes_before(bytes, at), before);
+    let since = count_since_feed(passed);
+    if since == passed.len() {
+        column + since
+    } else {
+        since + 1
+    }
+}
+
 /// The column, from 1, of a position in one of the files.
 fn column_of(files: &[File], file: usize, at: usize) -> usize
     ensures { result ≡ column_at (map plain_file files.now) file at }
@@ -161,21 +116,85 @@ fn column_of(files: &[File], file: usize, at: usize) -> usize
     count_since_feed(bytes_before(bytes_of(files, file), at)) + 1
 }
 
+/// The lines and columns of the files. They are counted on from the position that was asked for
+/// last, where the next one stands behind it in the same file.
+#[derive(Drop)]
+pub struct LineCount<'a> {
+    files: &'a [File<'a>],
+    /// The position that was asked for last, its line and its column.
+    file: usize,
+    at: usize,
+    line: usize,
+    column: usize,
+}
+
+impl<'a> Model for LineCount<'a> {
+    ghost use Rattle.std.specs.Prelude.{◌≡◌, List, map};
+    ghost use Rattle.mm_text.specs.Files.{PlainFile, plain_file};
+    ghost use Rattle.mm_text.specs.LineNumbers.{line_of as line_at};
+    ghost use Rattle.mm_rules.specs.Places.{column_of as column_at};
+
+    ghost Value = { List PlainFile };
+
+    ghost view = { λ c. map plain_file c.files.now };
+
+    ghost invariant = { λ c. (c.line ≡ line_at (map plain_file c.files.now) c.file c.at)
+        × (c.column ≡ column_at (map plain_file c.files.now) c.file c.at) };
+}
+
 impl<'a> LineCount<'a> {
-    /// The place of a position in one of the files; its line is counted on where it can be.
+    /// The lines of these files.
+    pub fn new(files: &'a [File<'a>]) -> LineCount<'a>
+        ensures { result ≡ map plain_file files.now }
+    {
+        LineCount {
+            files,
+            file: 0,
+            at: 0,
+            line: 1,
+            column: 1,
+        }
+    }
+
+    /// The place of a position, counted on where it can be.
+    fn counted_place(&self, file: usize, at: usize) -> Place
+        ensures { result ≡ place_at self.now file at }
+    {
+        let bytes = bytes_of(self.files, file);
+        let (before, line, column) = if file == self.file && self.at <= at {
+            (self.at, self.line, self.column)
+        } else {
+            (0, 1, 1)
+        };
+        Place {
+            file,
+            line: line_from(bytes, before, line, at),
+            column: column_from(bytes, before, column, at),
+        }
+    }
+
+    /// The place of a position in one of the files, counted on where it can be.
     pub fn place_in(&mut self, file: usize, at: usize) -> Place
         ensures place { result ≡ place_at self.old file at }
         ensures files { self.new ≡ self.old }
     {
-        let column = column_of(self.files, file, at);
-        Place {
-            file,
-            line: self.line_of(file, at),
-            column,
-        }
+        let place = self.counted_place(file, at);
+        self.file = file;
+        self.at = at;
+        self.line = place.line;
+        self.column = place.column;
+        place
     }
 
-    /// The place where a token of the files stands; its line is counted on where it can be.
+    /// The line, from 1, of a position in one of the files, as `line_of` tells it.
+    pub fn line_of(&mut self, file: usize, at: usize) -> usize
+        ensures line { result ≡ line_at self.old file at }
+        ensures files { self.new ≡ self.old }
+    {
+        self.place_in(file, at).line
+    }
+
+    /// The place where a token of the files stands, counted on where it can be.
     pub fn place_of(&mut self, token: Token) -> Place
         ensures place { result
             ≡ place_at self.old (plain_token token.entry).file (plain_token token.entry).at }
