@@ -7,6 +7,7 @@ use Rattle.std.specs.List.{sum_by}
 use Rattle.std.proofs.lemmas.List.{length-append, length-map}
 use Rattle.std.proofs.lemmas.List.Sums.{get_or-le-sum_by}
 use Rattle.std.proofs.lemmas.Option.{slice_get_within, slice_get-map, slice_get-get_or, none-some}
+use Rattle.std.proofs.lemmas.Option.{same_Some}
 use Rattle.std.proofs.lemmas.Option.{get_or_from_slice_get}
 use Rattle.mm_base.specs.declared.token.Token.{Token}
 use Rattle.mm_base.specs.Token.{PlainToken, plain_token}
@@ -24,10 +25,12 @@ use Rattle.mm_step.specs.Moves.{Move, steps_in}
 use Rattle.mm_step.specs.Plain.{token_texts}
 use Rattle.mm_proof.specs.Tokens.{is_incomplete, SayMoves}
 use Rattle.mm_proof.specs.CheckedPrefix.{checked_prefix}
-use Rattle.mm_places.specs.Places.{IsMovePlace}
+use Rattle.mm_places.specs.Places.{IsMovePlace, AreMovePlaces}
 use Rattle.mm_listing.specs.Halted.{StandsAtHalt}
 use Rattle.mm_places.proofs.ProofPlaces.WholePlaces.{move_within}
+use Rattle.mm_rules.proofs.Judgements.JudgedProofs.{texts_of as placed_texts}
 use Rattle.mm_facts.specs.Explained.{judged_tokens, TokensHalt}
+use Rattle.mm_facts.specs.StepTexts.{IsMovePosition}
 use Rattle.mm_facts.specs.Why.{IsPosition, IsStopPlace, IsPlaceAmong}
 use Rattle.mm_facts.specs.Mirror.Explaining.{StopsIn, IsCauseOf}
 use Rattle.mm_facts.specs.declared.details.Cause.{Cause}
@@ -140,6 +143,66 @@ never_none tokens number found none whole known before s moves said less =
         (subst (λ (ts : List (List ℕ)). SayMoves before s ts moves) (judged_complete tokens e) said)
         less in
         none-some (at.0, at.1) (sym none ∙ at.2)
+
+-- each move that the judged tokens say has one of so many places
+pub has_place : (tokens : List (List ℕ)) (count : ℕ)
+    → ((before : List Sentence) (s : Sentence) (moves : List (Move (List ℕ)))
+    → SayMoves before s tokens moves → length moves ≤ count)
+    → ((before : List Sentence) (s : Sentence) (moves : List (Move (List ℕ)))
+    → SayMoves before s (checked_prefix tokens) moves → length moves ≤ count)
+    → (before : List Sentence) (s : Sentence) (moves : List (Move (List ℕ)))
+    → SayMoves before s (judged_tokens tokens) moves → (index : ℕ) → index < length moves
+    → index < count
+has_place tokens count whole known before s moves said index less = go (is_incomplete tokens) refl
+  where
+    go : (b : Bool) → is_incomplete tokens ≡ b → index < count
+    go true e =
+        let few = known before s moves
+        (subst (λ (ts : List (List ℕ)). SayMoves before s ts moves) (judged_known tokens e) said) in
+        omega (arith, less, few)
+    go false e =
+        let few = whole before s moves
+        (subst (λ (ts : List (List ℕ)). SayMoves before s ts moves) (judged_complete tokens e)
+        said) in
+        omega (arith, less, few)
+
+-- ---- the position of a move, by the places of all
+
+-- it is one of the tokens, and a byte of it
+pub listed_place : (tokens : List Token) (places : List (ℕ × ℕ)) (index : ℕ)
+    → sum_by length (token_texts tokens) ≤ most_bytes
+    → AreMovePlaces (token_texts tokens) places → index < length places
+    → IsMovePlace (token_texts tokens) index (get_or places index (0, 0)).0
+    (get_or places index (0, 0)).1
+    × ((get_or places index (0, 0)).0 < length tokens)
+    × ((get_or places index (0, 0)).1 ≤ most_bytes)
+listed_place tokens places index room are less =
+    let place : ℕ × ℕ = get_or places index (0, 0) in
+    let there = (are index place.0 place.1).1 (slice_get-get_or places index (0, 0) less) in
+    let fits = place_fits tokens index place.0 place.1 room there in
+    (there, fits.0, fits.1)
+
+-- the position of the byte is that of the move
+pub listed_position : (tokens : List Token) (index token byte at : ℕ) (other : Token)
+    → token < length tokens → IsMovePlace (token_texts tokens) index token byte
+    → IsPosition (map plain_token tokens) token byte at
+    → IsMovePosition (map plain_token tokens) index (get_or tokens token other).file at
+listed_position tokens index token byte at other less place (one, there, is) =
+    let here : slice_get (map plain_token tokens) token
+    ≡ Some (plain_token (get_or tokens token other)) =
+    rw slice_get-map (ap (λ (o : Option Token). option_map plain_token o)
+    (slice_get-get_or tokens token other less)) in
+    let same : plain_token (get_or tokens token other) ≡ one =
+    same_Some (plain_token (get_or tokens token other)) one (sym here ∙ there) in (
+      token,
+      byte,
+      one,
+      subst (λ (texts : List (List ℕ)). IsMovePlace texts index token byte) (placed_texts tokens)
+          place,
+      there,
+      ap (λ (t : PlainToken). t.file) same,
+      is,
+    )
 
 -- ---- the place of a fault whose cause is where moves stop
 

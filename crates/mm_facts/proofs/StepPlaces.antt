@@ -19,7 +19,7 @@ use Rattle.mm_text.specs.Files.{PlainFile}
 use Rattle.mm_code.specs.declared.code.Code.{Code}
 use Rattle.mm_code.specs.declared.code.Code.TheVariants as codes
 use Rattle.mm_frame.specs.Sentence.{Sentence}
-use Rattle.mm_step.specs.Moves.{Move, name, again, mark, is_step, steps_in}
+use Rattle.mm_step.specs.Moves.{Move, mark, is_step, steps_in}
 use Rattle.mm_step.specs.Profiles.{limit_of}
 use Rattle.mm_step.specs.Proof.{IsWithin}
 use Rattle.mm_step.specs.Plain.{ids_in}
@@ -35,7 +35,7 @@ use Rattle.mm_listing.specs.declared.halt.Halt.{Halt}
 use Rattle.mm_listing.specs.declared.lines.Line.{Line}
 use Rattle.mm_listing.specs.Halted.{HaltsProof}
 use Rattle.mm_listing.specs.Listing.{StepName, IsCalled, IsNameOf, AreLinesWith}
-use Rattle.mm_facts.specs.Mirror.Explaining.{step_index, step_indices_from}
+use Rattle.mm_facts.specs.Mirror.Explaining.{step_indices_from}
 use Rattle.mm_facts.specs.StepTexts.{TellsMove, IsStepText}
 
 -- ---- the moves before the place where they stop

@@ -1,5 +1,5 @@
 -- The type codes that the step by an assertion takes, and those of the entries that it gets.
-use Rattle.std.proofs.Common.{◌≡◌, ◌≢◌, ℕ, zero, suc, ◌+◌, ◌<◌, List, [], ◌∷◌, ◌++◌, length, take}
+use Rattle.std.proofs.Common.{◌≡◌, ◌≢◌, ℕ, ◌+◌, ◌<◌, List, [], ◌∷◌, ◌++◌, length, take}
 use Rattle.std.proofs.Common.{map}
 use Rattle.std.proofs.Common.{slice_get, Option, Some, None, refl, ap, sym, subst, ◌∙◌, append-nil}
 use Rattle.std.proofs.Common.{arith}

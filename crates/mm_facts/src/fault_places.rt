@@ -14,21 +14,13 @@ ghost use Rattle.mm_step.specs.Plain.{token_texts};
 ghost use Rattle.mm_step.specs.Steps.{IsProofNumber};
 ghost use Rattle.mm_facts.specs.Mirror.Explaining.{IsCauseOf, StopsIn};
 ghost use Rattle.mm_rules.specs.Verdict.{proof_of};
-ghost use Rattle.mm_facts.specs.Why.{IsPosition, IsStopPlace, IsPlaceAmong, IsFaultPlace};
+ghost use Rattle.mm_facts.specs.Why.{IsStopPlace, IsPlaceAmong, IsFaultPlace};
 
 use crate::details::Cause;
+use crate::token_position::position_of;
 use mm_base::{Statement, Token};
 use mm_listing::{Halt, HaltAt};
 use mm_places::move_place;
-
-/// The position of a byte of one of the tokens.
-pub(crate) fn position_of(placed: &[Token], place: (usize, usize)) -> usize
-    requires token { place.0 < length placed.now }
-    requires byte { place.1 ≤ most_bytes }
-    ensures { IsPosition (map plain_token placed.now) place.0 place.1 result }
-{
-    placed[place.0].at as usize + place.1
-}
 
 /// The position at which the moves of the tokens up to an end stop.
 fn stop_place(tokens: &[Token], end: usize, halt: &Halt) -> usize

@@ -2,9 +2,9 @@
 //! It answers `cause_of` and `push_cause`, which make what stands below the head of a message, for
 //! P and L1. It stands on `mm_rules`, `mm_listing`, `mm_places` and `mm_distinct`, and not on the
 //! verdict. Begin with `details`, which has the order of the facts; `types` has the types of P9,
-//! `disjoint` the pairs of P11 and P12, `step_texts` how steps are told, `fact_lines` the words of every fact, `fault_places` the
-//! places, `suggestion` the label that is nearest to an unknown one, by the fewest `changes`. What
-//! is reported is defined in `specs/Explained.antt`.
+//! `disjoint` the pairs of P11 and P12, `step_texts` how steps are told, `fact_lines` the words of
+//! every fact, `fault_places` the places, `suggestion` the label that is nearest to an unknown one,
+//! by the fewest `changes`. What is reported is defined in `specs/Explained.antt`.
 #![tactic(auto)]
 
 mod changes;
@@ -15,6 +15,7 @@ mod fault_places;
 mod named_halt;
 mod step_texts;
 mod suggestion;
+mod token_position;
 mod types;
 
 pub use details::{Cause, cause_of, push_cause, push_left_over};

@@ -16,19 +16,20 @@ ghost use Rattle.mm_proof.specs.Tokens.{SayMoves};
 ghost use Rattle.mm_proof.specs.Verified.{OfMoves};
 ghost use Rattle.mm_listing.specs.Listing.{StepName, IsNameOf};
 ghost use Rattle.mm_listing.specs.Halted.{HaltsProof};
+ghost use Rattle.mm_places.specs.Places.{AreMovePlaces};
 ghost use Rattle.mm_facts.specs.Explained.{judged_tokens};
 ghost use Rattle.mm_facts.specs.StepTexts.{called_text, position_text, TellsMove, IsStepText};
 ghost use Rattle.mm_facts.specs.StepTexts.{IsMovePosition};
 ghost use Rattle.mm_facts.specs.Mirror.Explaining.{step_index, step_indices_from};
-ghost use Rattle.mm_facts.specs.Mirror.Explaining.{IsMoveAt, AreStepTexts};
+ghost use Rattle.mm_facts.specs.Mirror.Explaining.{AreStepTexts};
 
-use crate::fault_places::position_of;
 use crate::named_halt::NamedHalt;
+use crate::token_position::position_of;
 use mm_base::{File, Token};
 use mm_code::Code;
 use mm_frame::{Book, LabelId};
 use mm_listing::{Halt, Name, halt_of, names_before};
-use mm_places::move_place;
+use mm_places::move_places;
 use mm_proof::Steps;
 use mm_rules::{LineCount, push_decimal};
 use std::alloc::{AllocError, Global};
@@ -88,30 +89,14 @@ fn push_position(
     push_decimal(out, place.column)
 }
 
-/// Where the move with an index stands: its token and the byte in it.
-fn place_of_move(tokens: &[Token], index: usize) -> (usize, usize)
-    requires room { sum_by length (token_texts tokens.now) ≤ most_bytes }
-    requires said { (before : List Sentence) × (s : Sentence) × (moves : List (Move (List ℕ)))
-        × SayMoves before s (judged_tokens (token_texts tokens.now)) moves
-        × (index < length moves) }
-    ensures { IsMoveAt (map plain_token tokens.now) index result.0 result.1 }
-{
-    match move_place(tokens, index) {
-        Some(place) => place,
-        // Each move that the judged tokens say stands among the tokens.
-        None => unreachable!(),
-    }
-}
-
 /// The position at which the move with an index stands: its file, and where in it.
-fn position_of_move(tokens: &[Token], index: usize) -> (usize, usize)
+fn position_of_move(tokens: &[Token], places: &[(usize, usize)], index: usize) -> (usize, usize)
     requires room { sum_by length (token_texts tokens.now) ≤ most_bytes }
-    requires said { (before : List Sentence) × (s : Sentence) × (moves : List (Move (List ℕ)))
-        × SayMoves before s (judged_tokens (token_texts tokens.now)) moves
-        × (index < length moves) }
+    requires places { AreMovePlaces (token_texts tokens.now) places.now }
+    requires within { index < length places.now }
     ensures { IsMovePosition (map plain_token tokens.now) index result.0 result.1 }
 {
-    let place = place_of_move(tokens, index);
+    let place = places[index];
     (tokens[place.0].file, position_of(tokens, place))
 }
 
@@ -121,19 +106,19 @@ fn step_text(
     counted: &mut LineCount,
     book: &Book,
     tokens: &[Token],
+    places: &[(usize, usize)],
     step: (usize, Name),
     index: usize,
 ) -> Result<Vec<u8>, AllocError>
     requires room { sum_by length (token_texts tokens.now) ≤ most_bytes }
-    requires said { (before : List Sentence) × (s : Sentence) × (moves : List (Move (List ℕ)))
-        × SayMoves before s (judged_tokens (token_texts tokens.now)) moves
-        × (index < length moves) }
+    requires places { AreMovePlaces (token_texts tokens.now) places.now }
+    requires within { index < length places.now }
     ensures text { IfOk result (λ text. (called : StepName)
         → IsNameOf book.now.statements step.1 called
         → TellsMove counted.old (map plain_token tokens.now) index step.0 called text.items) }
     ensures files { counted.new ≡ counted.old }
 {
-    let (file, at) = position_of_move(tokens, index);
+    let (file, at) = position_of_move(tokens, places, index);
     let mut text = Vec::new(alloc);
     push_decimal(&mut text, step.0)?;
     text.extend_from_slice(b", ")?;
@@ -170,13 +155,14 @@ fn step_texts(
 {
     let names = names_before(alloc, book, id, steps, halt.passed)?;
     let indices = step_indices(alloc, &steps.codes)?;
+    let places = move_places(alloc, tokens)?;
     let mut counted = LineCount::new(files);
     let mut texts = Vec::new(alloc);
     for entry in 0..halt.origins.len() {
         let number = halt.origins[entry];
         let step = (number, names[number - 1].name);
         let index = indices[number - 1];
-        let text = step_text(alloc, &mut counted, book, tokens, step, index)?;
+        let text = step_text(alloc, &mut counted, book, tokens, &places, step, index)?;
         texts.push(text)?;
     }
     Ok(texts)

@@ -2,5 +2,6 @@
 -- strict.
 pub mod MovePlaces
 pub mod SomePlaces
+pub mod PlaceTable
 pub mod WholePlaces
 pub mod FormPlaces

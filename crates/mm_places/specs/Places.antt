@@ -1,6 +1,6 @@
 -- Where a move of a proof stands among its tokens (the Metamath book, sections 4.3 and 4.4.3,
 -- appendix B). That a fault is told there is this project's own.
-use Rattle.std.specs.Prelude.{◌≡◌, ℕ, ◌+◌, ◌<◌, List, ◌++◌, length, take, slice_get, Some, ◌⊎◌}
+use Rattle.std.specs.Prelude.{◌≡◌, ◌↔◌, ℕ, ◌+◌, ◌<◌, List, ◌++◌, length, take, slice_get, Some, ◌⊎◌}
 use Rattle.std.specs.List.{flat_map}
 use Rattle.mm_code.specs.declared.code.Code.{Code}
 use Rattle.mm_code.specs.Letters.{Letters}
@@ -23,3 +23,9 @@ IsMovePlace tokens number token byte =
     (IsNormal tokens × (token ≡ number) × (byte ≡ 0) × (number < length tokens))
     ⊎ ((labels : List (List ℕ)) × (letters : List (List ℕ)) × IsCompressed tokens labels letters
     × (piece : ℕ) × (token ≡ length labels + 2 + piece) × EndsCode letters number piece byte)
+
+-- These are the places of the moves, in order: each stands at its own, and none is left out.
+abbrev pub AreMovePlaces : (tokens : List (List ℕ)) → (places : List (ℕ × ℕ)) → Type 0
+AreMovePlaces tokens places =
+    (number token byte : ℕ)
+    → IsMovePlace tokens number token byte ↔ (slice_get places number ≡ Some (token, byte))

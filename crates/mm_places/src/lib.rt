@@ -1,11 +1,14 @@
 //! Where a proof that is at fault has its fault: the place of a step, of a label, of a letter.
-//! It answers `move_place` for a fault of one step, and `whole_place` for a fault of the whole
-//! proof. It stands on `mm_proof`; only explanations ask it. Begin with `places`.
+//! It answers `move_place` for a fault of one step, `move_places` for all steps at once, and
+//! `whole_place` for a fault of the whole proof. It stands on `mm_proof`; only explanations ask it.
+//! Begin with `places`.
 #![tactic(auto)]
 
 mod form_places;
+mod place_table;
 mod places;
 mod whole_places;
 
+pub use place_table::move_places;
 pub use places::move_place;
 pub use whole_places::whole_place;

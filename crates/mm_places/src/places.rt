@@ -14,7 +14,7 @@ use mm_proof::{begins_list, closing_index};
 
 /// What is found of a code that is sought among letters.
 #[derive(Clone, Copy)]
-enum Sought {
+pub(crate) enum Sought {
     /// The byte at this index ends it.
     At(usize),
     /// It is behind these letters: so many codes end before it, and whether the letters end with
@@ -35,9 +35,9 @@ fn ended(index: usize, left: usize) -> Sought
     }
 }
 
-// Passes a letter, behind leading digits or not.
+/// Passes a letter, behind leading digits or not.
 #[tactic(auto, using(crate::proofs::ProofPlaces::MovePlaces::passing_steps))]
-fn pass(index: usize, left: usize, inside: bool, byte: u8) -> Sought
+pub(crate) fn pass(index: usize, left: usize, inside: bool, byte: u8) -> Sought
     ensures { result ≡ passed index left inside byte }
 {
     match byte {

@@ -33,13 +33,10 @@ use Rattle.mm_facts.specs.Explained.{AreAskedInTurn, AreTypesAsked}
 use Rattle.mm_facts.specs.declared.details.Cause.{Cause}
 use Rattle.mm_facts.specs.declared.details.Cause.TheVariants as cause
 use Rattle.mm_facts.specs.declared.named_halt.NamedHalt.{NamedHalt}
-use Rattle.mm_facts.specs.StepTexts.{TellsMove, IsStepText}
+use Rattle.mm_facts.specs.StepTexts.{IsStepText}
 use Rattle.mm_base.specs.Token.{PlainToken}
-use Rattle.mm_base.specs.MostBytes.{most_bytes}
-use Rattle.mm_code.specs.Words.{texts_of}
 use Rattle.mm_code.specs.declared.code.Code.{Code}
 use Rattle.mm_code.specs.declared.code.Code.TheVariants as codes
-use Rattle.mm_places.specs.Places.{IsMovePlace}
 use Rattle.mm_text.specs.Files.{PlainFile}
 use Rattle.std.specs.List.{AllZip, AllByRecursion, flat_map}
 use Rattle.mm_frame.specs.declared.distinct.DistinctPair.{DistinctPair}
@@ -54,11 +51,6 @@ step_index index codes.Tag = []
 abbrev pub step_indices_from : (index : ℕ) → List Code → List ℕ
 step_indices_from index [] = []
 step_indices_from index (code ∷ said) = step_index index code ++ step_indices_from (index + 1) said
-
--- the move with an index stands at a byte of one of the tokens
-abbrev pub IsMoveAt : List PlainToken → (index token byte : ℕ) → Type 0
-IsMoveAt tokens index token byte =
-    IsMovePlace (texts_of tokens) index token byte × (token < length tokens) × (byte ≤ most_bytes)
 
 -- what tells the steps that made the entries of the stack
 abbrev pub told_steps : NamedHalt → List (List ℕ)

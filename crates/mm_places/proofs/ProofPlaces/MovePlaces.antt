@@ -139,7 +139,7 @@ pub data Went (index left : ℕ) (inside : Bool) (value byte : ℕ) : Type 0 whe
   never : passed index left inside byte ≡ Nowhere
       → ((rest : List ℕ) → Reads value left (byte ∷ rest) → ⊥) → Went index left inside value byte
 
-ended_more : (index l : ℕ) → ended index (suc l) ≡ Behind l false
+pub ended_more : (index l : ℕ) → ended index (suc l) ≡ Behind l false
 ended_more index l =
     let less : suc l - 1 ≡ l = omega arith in
     rw (ne_eqb (suc l) 0 (λ e. omega arith), less) refl
@@ -188,7 +188,7 @@ went_tag index left false value byte ties is =
     went_end index left false value byte Tag (λ rest. read_tag value byte rest is ties)
     (passed_tag index left false byte is refl)
 
-kinds : (byte : ℕ) → (byte < 65) ⊎ (90 < byte) ⊎ ((65 ≤ byte) × (byte < 85))
+pub kinds : (byte : ℕ) → (byte < 65) ⊎ (90 < byte) ⊎ ((65 ≤ byte) × (byte < 85))
     ⊎ ((85 ≤ byte) × (byte < 90)) ⊎ (byte ≡ 90)
 kinds byte = grind arith
 
@@ -432,8 +432,8 @@ module _ (number left : ℕ) (inside : Bool) (value : ℕ) (piece : List ℕ)
             not_behind k c (record { text = text; there = on; within = lt; reads = from _ r })
       ])
 
-found : (number left : ℕ) (inside : Bool) (value : ℕ) (pieces : List (List ℕ)) → Ties inside value
-    → Found number left inside value pieces
+pub found : (number left : ℕ) (inside : Bool) (value : ℕ) (pieces : List (List ℕ))
+    → Ties inside value → Found number left inside value pieces
 found number left inside value [] ties =
     nowhere_there refl (λ q c e. none-some e.text e.there)
 found number left inside value (piece ∷ pieces) ties =
@@ -449,7 +449,7 @@ found number left inside value (piece ∷ pieces) ties =
 
 -- ==== in the words of the code of letters
 
-ends_in : (letters : List (List ℕ)) (number piece byte : ℕ) → EndsCode letters number piece byte
+pub ends_in : (letters : List (List ℕ)) (number piece byte : ℕ) → EndsCode letters number piece byte
     → EndsIn 0 number letters piece byte
 ends_in letters number piece byte it = record {
   text = it.text;
@@ -462,8 +462,8 @@ ends_in letters number piece byte it = record {
   };
 }
 
-ends_code : (letters : List (List ℕ)) (number piece byte : ℕ) → EndsIn 0 number letters piece byte
-    → EndsCode letters number piece byte
+pub ends_code : (letters : List (List ℕ)) (number piece byte : ℕ)
+    → EndsIn 0 number letters piece byte → EndsCode letters number piece byte
 ends_code letters number piece byte it = record {
   text = it.text;
   there = it.there;
@@ -535,12 +535,12 @@ module _ (rest : List (List ℕ)) (i : ℕ) (there_is : slice_get rest i ≡ Som
       let less = slice_get_within rest i closing_token there_is in
       length-take-le i rest (omega arith)
 
-  letters_place : (number piece byte : ℕ) → EndsCode (drop (i + 1) rest) number piece byte
+  pub letters_place : (number piece byte : ℕ) → EndsCode (drop (i + 1) rest) number piece byte
       → IsMovePlace (opening_token ∷ rest) number (i + 2 + piece) byte
   letters_place number piece byte it =
       inr (take i rest, drop (i + 1) rest, compressed_parts, piece, rw length_listed refl, it)
 
-  letters_only : (number token byte : ℕ) → IsMovePlace (opening_token ∷ rest) number token byte
+  pub letters_only : (number token byte : ℕ) → IsMovePlace (opening_token ∷ rest) number token byte
       → (piece : ℕ) × (token ≡ i + 2 + piece) × EndsCode (drop (i + 1) rest) number piece byte
   letters_only number token byte (inl p) = absurd (p.0 refl)
   letters_only number token byte (inr (labels, letters, c, piece, is, it)) =

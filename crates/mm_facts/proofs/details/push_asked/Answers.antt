@@ -1,6 +1,6 @@
 -- The step meets its hypotheses, which are those of its frame, and has an entry for each.
-use Rattle.std.proofs.Common.{◌≡◌, ◌<◌, ◌≤◌, ◌+◌, ◌-◌, ℕ, List, Some, length, slice_get, take}
-use Rattle.std.proofs.Common.{arith, rules, refl, sym, subst, ap, ◌∙◌, vec_len, inr}
+use Rattle.std.proofs.Common.{◌≡◌, ◌<◌, ◌≤◌, ◌+◌, ◌-◌, ℕ, Some, length, slice_get, take}
+use Rattle.std.proofs.Common.{arith, rules, refl, sym, subst, ap, vec_len, inr}
 use Rattle.std.specs.Prelude.{filter}
 use Rattle.std.specs.List.{AllZip, AllByRecursion}
 use Rattle.mm_base.proofs.Lists.{zip_left}

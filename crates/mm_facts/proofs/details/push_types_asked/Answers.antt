@@ -1,7 +1,7 @@
 -- The step meets its hypotheses, of which one has an entry of another type.
 use Rattle.std.proofs.Common.{◌≡◌, ◌<◌, ◌+◌, ◌-◌, ℕ, List, Some, length, slice_get, take, arith}
-use Rattle.std.proofs.Common.{rules, refl, sym, subst, ap, ◌∙◌, vec_len, inl}
-use Rattle.std.specs.List.{AllZip, AllByRecursion}
+use Rattle.std.proofs.Common.{rules, sym, subst, ap, ◌∙◌, vec_len, inl}
+use Rattle.std.specs.List.{AllByRecursion}
 use Rattle.std.proofs.lemmas.Option.{slice_get_within}
 use Rattle.std.proofs.lemmas.Result.{on_ok_weaker}
 use Rattle.mm_frame.specs.Numbers.{symbols_of, AreNumbers}

@@ -1,5 +1,5 @@
 -- It is a place among the statement's tokens.
-use Rattle.std.proofs.Common.{◌≡◌, ◌≤◌, ℕ, List, map, length, take, ap, sym, subst, ◌∙◌}
+use Rattle.std.proofs.Common.{◌≤◌, ℕ, List, map, length, take, ap, sym, subst, ◌∙◌}
 use Rattle.std.specs.List.{sum_by}
 use Rattle.mm_base.specs.Token.{PlainToken, plain_token}
 use Rattle.mm_base.specs.MostBytes.{most_bytes}

@@ -1,13 +1,16 @@
 -- The step that made an entry has a line and an index, by its number.
-use Rattle.std.proofs.Common.{◌≡◌, ◌+◌, ◌-◌, ◌<◌, ℕ, List, Some, length, map, slice_get, take, arith}
-use Rattle.std.proofs.Common.{rules, [], ◌∷◌, refl, ap, subst, vec_len, ◌∙◌}
+use Rattle.std.proofs.Common.{◌≡◌, ◌-◌, ◌<◌, ℕ, List, Some, length, map, slice_get, take, arith}
+use Rattle.std.proofs.Common.{rules, [], ◌∷◌, refl, sym, ap, subst, vec_len, ◌∙◌}
 use Rattle.std.proofs.lemmas.List.{length-append, length-map}
 use Rattle.std.proofs.lemmas.Option.{slice_get_read}
 use Rattle.mm_base.specs.Token.{PlainToken, plain_token}
 use Rattle.mm_text.specs.Files.{PlainFile, plain_file}
 use Rattle.mm_proof.proofs.ProofVerdicts.JudgedMoves.{seen_moves}
+use Rattle.mm_step.specs.Plain.{token_texts}
+use Rattle.mm_places.specs.Places.{AreMovePlaces}
 use Rattle.mm_facts.specs.Mirror.Explaining.{step_indices_from}
 use Rattle.mm_facts.specs.StepTexts.{TellsMove}
+use Rattle.mm_facts.proofs.FaultPlaces.{has_place}
 use Rattle.mm_facts.proofs.StepPlaces.{first_pass, first_within, found_of, found_within}
 use Rattle.mm_facts.proofs.StepPlaces.{found_index, one_text_more, all_told}
 use Rattle.mm_facts.proofs.step_texts.step_texts.Goals as goal
@@ -108,8 +111,8 @@ index-index-requires c =
     search rules in
     omega (arith, within.2)
 
-pub step_text-requires-clause-said : goal.step_text-requires-clause-said
-step_text-requires-clause-said c =
+pub step_text-requires-clause-within : goal.step_text-requires-clause-within
+step_text-requires-clause-within c =
     let p = c.requires.proof in
     let told = c.requires.said p.0 p.1 p.2 in
     let number = c.index-number.result.now in
@@ -129,7 +132,17 @@ step_text-requires-clause-said c =
     let at_index : slice_get c.in_ok-indices.indices.items (number - 1) ≡ Some index =
     slice_get_read c.in_ok-indices.indices.items (length c.in_ok-indices.indices.items)
     (number - 1) index refl within.2 c.index-index.ensures in
-    (take p.0 c.args.book.now.statements, p.1, told.1, told.2, found_index found index at_index)
+    subst (λ (places : List (ℕ × ℕ)). index < length places)
+    (sym c.deref-in-loop-entry.ensures.value)
+    (has_place (token_texts c.args.tokens.now) (length c.in_ok-places.places.items)
+    c.in_ok-places.ensures.said c.in_ok-places.ensures.known_said
+    (take p.0 c.args.book.now.statements) p.1 told.1 told.2 index
+    (found_index found index at_index))
+
+pub step_text-requires-clause-places : goal.step_text-requires-clause-places
+step_text-requires-clause-places c =
+    subst (λ (places : List (ℕ × ℕ)). AreMovePlaces (token_texts c.args.tokens.now) places)
+    (sym c.deref-in-loop-entry.ensures.value) c.in_ok-places.ensures.places
 
 pub loop-entry-preserved : goal.loop-entry-preserved
 loop-entry-preserved c = record {

@@ -2,7 +2,7 @@
 use Rattle.std.proofs.Common.{[], refl}
 use Rattle.mm_base.specs.declared.token.Token.{Token}
 use Rattle.mm_facts.proofs.FaultPlaces.{position_there}
-use Rattle.mm_facts.proofs.fault_places.position_of.Goals as goal
+use Rattle.mm_facts.proofs.token_position.position_of.Goals as goal
 
 pub returns : goal.returns
 returns c =
