@@ -292,6 +292,8 @@ ends 1 'ask A1 none\n' '' try none th.txt first.mm
 ends 0 'th tze tpl\n' '' axioms --all first.mm
 ends 3 '? open\nhalf step ?open\nfull one step\n' '' axioms --all rests.mm
 ends 0 'th tze refl\n' '' axioms --all top.mm terms.mm rules.mm symbols.mm
+ends 3 '? open\nhalf step ?open\nfull step\n' '' axioms --all --essential rests.mm
+ends 0 'th refl\n' '' axioms --essential top.mm terms.mm rules.mm symbols.mm --all
 ends 4 'load F2\n' '' axioms first.mm --all first.mm
 ends 0 'first.mm:7:1\nth $p term ( 0 + 0 )\n' '' statement th first.mm
 ends 0 'rests.mm:2:14\nh $e a\nstep $a b\n' '' statement step rests.mm
@@ -313,10 +315,10 @@ ends 0 'full\none\n' '' axioms full rests.mm --to=one
 ends 1 'ask A4 half\n' '' axioms --to one half rests.mm
 ends 3 'ask A3 open\n' '' axioms --to one open rests.mm
 ends 1 'ask A1 none\n' '' axioms --to none full rests.mm
-for flags in '--all --essential' '--all --to tze' '--essential --to tze'; do
-    ends 2 '' "mm: --all, --essential and --to exclude each other
+for flags in '--all --essential --to tze' '--all --to tze' '--essential --to tze'; do
+    ends 2 '' "mm: --to excludes --all and --essential
 Usage: mm axioms [--essential | --to AXIOM] LABEL FILES..
-       mm axioms --all FILES..\n" axioms $flags th first.mm
+       mm axioms --all [--essential] FILES..\n" axioms $flags th first.mm
 done
 ends 0 'th\n' '' users tze first.mm
 ends 0 'th\n' '' users --all tpl first.mm
@@ -482,7 +484,7 @@ misused version first.mm
 mistaken --quiet 'mm check [--strict] FILES..' check --quiet first.mm
 mistaken -q 'mm check [--strict] FILES..' check -q first.mm
 mistaken -t 'mm axioms [--essential | --to AXIOM] LABEL FILES..
-       mm axioms --all FILES..' axioms -th first.mm
+       mm axioms --all [--essential] FILES..' axioms -th first.mm
 mistaken --quiet 'mm packed [--file] LABEL FILES..
        mm packed --all NAME FILES..' packed --file th first.mm --quiet
 mistaken --quiet 'mm minimize LABEL FILES..
@@ -500,7 +502,7 @@ for words in 'axioms th' 'axioms --all'; do
   <FILES>...
 
 Usage: mm axioms [--essential | --to AXIOM] LABEL FILES..
-       mm axioms --all FILES..
+       mm axioms --all [--essential] FILES..
 
 For more information, try '--help'.\n" $words
 done
@@ -509,7 +511,7 @@ ends 2 '' "error: the following required arguments were not provided:
   <FILES>...
 
 Usage: mm axioms [--essential | --to AXIOM] LABEL FILES..
-       mm axioms --all FILES..
+       mm axioms --all [--essential] FILES..
 
 For more information, try '--help'.\n" axioms
 minimize_use='Usage: mm minimize LABEL FILES..

@@ -1,7 +1,9 @@
 -- Type codes by number: whether two statements have one, and what of a report is of one.
 use Rattle.std.proofs.Common.{◌≡◌, ℕ, ◌<◌, List, [], ◌∷◌, map, length, slice_get, Option, Some}
-use Rattle.std.proofs.Common.{None, true, refl, sym, ap, subst, ◌∙◌}
+use Rattle.std.proofs.Common.{None, Bool, true, false, refl, sym, ap, subst, ◌∙◌}
+use Rattle.std.specs.List.{AllByRecursion}
 use Rattle.std.proofs.lemmas.Option.{same_Some}
+use Rattle.mm_base.proofs.Lists.{all_within}
 use Rattle.mm_base.specs.Statement.{PlainStatement}
 use Rattle.mm_frame.specs.declared.number.Sym.{Sym}
 use Rattle.mm_frame.specs.Numbers.{labelled_sentences, symbols_of, IsNumberOf, AreNumbers}
@@ -12,9 +14,11 @@ use Rattle.mm_frame.proofs.Names.LabelNumbers.{numbered_within}
 use Rattle.mm_frame.proofs.Names.NameNumbers.{symbols_unique}
 use Rattle.mm_rules.specs.Rests.{IsNamed, IsReport}
 use Rattle.mm_rules.specs.Verdict.{sentences, is_proof}
-use Rattle.mm_axioms.specs.Essential.{HasType, HaveOneType, AreOfType, IsEssentialReport}
+use Rattle.mm_axioms.specs.Essential.{HasType, HaveOneType, AreOfType, AreTold}
+use Rattle.mm_axioms.specs.Essential.{IsEssentialReport}
 use Rattle.mm_axioms.specs.Mirror.Codes.{IsCodeOf, AreNumbersWithin}
 use Rattle.mm_axioms.proofs.Resting.RestsOn.{named_once}
+use Rattle.mm_verdict.proofs.Questions.AskedTheorems.{all_among}
 
 -- the number of the first symbol
 pub code_at : (st : List Sentence) (ns : List Sym) (symbols : List (List ℕ))
@@ -95,3 +99,13 @@ axioms_within statements label axioms unproved report = record {
       let (index, s, at, holds) = ((report.are_axioms.each n).0 among).0 in
       numbered_within (sentences statements) n index _ at.numbered;
 }
+
+-- those that are told of them are, too
+pub told_within : (essential : Bool) (st : List Sentence) (id : ℕ) (axioms told : List ℕ)
+    (count : ℕ) → AreTold essential st id axioms told → AllByRecursion (λ n. n < count) axioms
+    → AllByRecursion (λ n. n < count) told
+told_within true st id axioms told count are within =
+    all_within (λ n. n < count) told
+    (λ n h. all_among (λ m. m < count) axioms n within ((are.each n).0 h).0)
+told_within false st id axioms told count are within =
+    subst (λ (ns : List ℕ). AllByRecursion (λ n. n < count) ns) (sym are) within

@@ -1,11 +1,12 @@
 -- What each theorem rests on, line by line.
-use Rattle.std.specs.Prelude.{◌≡◌, ◌⊎◌, ℕ, List, [], ◌∷◌, ◌++◌, map, codes, true}
+use Rattle.std.specs.Prelude.{◌≡◌, ◌⊎◌, ℕ, Bool, List, [], ◌∷◌, ◌++◌, map, codes, true}
 use Rattle.std.specs.List.{AllZip}
 use Rattle.mm_base.specs.declared.statement.Kind.TheVariants.{Provable}
 use Rattle.mm_base.specs.Statement.{PlainStatement}
-use Rattle.mm_rules.specs.Verdict.{is_unproved, labels_of}
+use Rattle.mm_rules.specs.Verdict.{is_unproved, labels_of, sentences}
 use Rattle.mm_rules.specs.Answer.{labels_at}
 use Rattle.mm_rules.specs.Rests.{IsNumberWhere, AreInOrder, IsNamed, IsReport}
+use Rattle.mm_axioms.specs.Essential.{AreTold}
 
 -- a line: a word, and the others
 pub record ReportLine : Type 0 where
@@ -24,18 +25,20 @@ proved_line labels label axioms unproved = record {
   others = labels_at labels axioms ++ map (λ other. codes "?" ++ other) (labels_at labels unproved);
 }
 
--- the line of the `$p` with a number: that of an unproved theorem, or what its report tells
-abbrev pub IsReportLine : List PlainStatement → ℕ → ReportLine → Type 0
-IsReportLine statements id line =
+-- the line of the `$p` with a number: that of an unproved theorem, or what its report tells, of the
+-- axioms all or the essential ones
+abbrev pub IsReportLine : (essential : Bool) → List PlainStatement → ℕ → ReportLine → Type 0
+IsReportLine essential statements id line =
     (label : List ℕ)
     × ((IsNamed statements label (λ s. is_unproved s ≡ true) id × (line ≡ unproved_line label))
     ⊎ ((axioms : List ℕ) × (unproved : List ℕ)
     × (report : IsReport statements label axioms unproved) × (report.id ≡ id)
-    × (line ≡ proved_line (labels_of statements) label axioms unproved)))
+    × (told : List ℕ) × AreTold essential (sentences statements) id axioms told
+    × (line ≡ proved_line (labels_of statements) label told unproved)))
 
 -- there is a line for each `$p`, in database order
-pub record AreReportLines (statements : List PlainStatement)
+pub record AreReportLines (essential : Bool) (statements : List PlainStatement)
     (lines : List ReportLine) : Type 0 where
   pub theorems : List ℕ
   pub are_theorems : AreInOrder (IsNumberWhere statements (λ s. s.kind ≡ Provable)) theorems
-  pub each : AllZip (IsReportLine statements) theorems lines
+  pub each : AllZip (IsReportLine essential statements) theorems lines

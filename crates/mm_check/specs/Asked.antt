@@ -12,8 +12,8 @@ use Rattle.mm_check.specs.Reply.{ListsAxioms, ListsShorter}
 abbrev pub IsAnswerOver : Asked → Profile → List PlainFile → List PlainStatement → List ℕ → ℕ
     → Type 0
 IsAnswerOver Verdict profile files statements text status = IsReply profile files text status
-IsAnswerOver Axioms profile files statements text status =
-    IsListAnswer ListsAxioms profile files statements text status
+IsAnswerOver (Axioms essential) profile files statements text status =
+    IsListAnswer (ListsAxioms essential) profile files statements text status
 IsAnswerOver Shorter profile files statements text status =
     IsListAnswer (ListsShorter profile files) profile files statements text status
 IsAnswerOver (About label question) profile files statements text status =

@@ -258,10 +258,11 @@ IsListAnswer Lists profile files statements text status =
     Lists statements text
     × (verdict : Verdict) × HasVerdict profile files verdict × (status ≡ status_of verdict)
 
--- the lines of all theorems on what they rest on
-abbrev pub ListsAxioms : List PlainStatement → List ℕ → Type 0
-ListsAxioms statements text =
-    (lines : List ReportLine) × AreReportLines statements lines × (text ≡ lines_text lines)
+-- the lines of all theorems on what they rest on, of the axioms on all or on the essential ones
+abbrev pub ListsAxioms : (essential : Bool) → List PlainStatement → List ℕ → Type 0
+ListsAxioms essential statements text =
+    (lines : List ReportLine) × AreReportLines essential statements lines
+    × (text ≡ lines_text lines)
 
 -- a line for each proof that is found to become shorter, and the sums
 abbrev pub ListsShorter : Profile → List PlainFile → List PlainStatement → List ℕ → Type 0
@@ -379,8 +380,8 @@ abbrev pub IsWholeReply : WholeQuestion → Profile → List PlainFile → List 
 IsWholeReply Check profile files text status = IsReply profile files text status
 IsWholeReply Faults profile files text status = IsFaultsReply profile files text status
 IsWholeReply Why profile files text status = IsWhyReply profile files text status
-IsWholeReply AllAxioms profile files text status =
-    IsQuestionReply profile files (IsListAnswer ListsAxioms profile files) text status
+IsWholeReply (AllAxioms essential) profile files text status =
+    IsQuestionReply profile files (IsListAnswer (ListsAxioms essential) profile files) text status
 IsWholeReply AllShorter profile files text status =
     IsQuestionReply profile files (IsListAnswer (ListsShorter profile files) profile files) text
     status

@@ -27,8 +27,8 @@ use std::alloc::{AllocError, Global};
 pub(crate) enum Asked<'a> {
     /// For the verdict alone.
     Verdict,
-    /// What each theorem depends on.
-    Axioms,
+    /// What each theorem depends on; if `essential`, of the axioms those alone that have its type code.
+    Axioms { essential: bool },
     /// Which proofs become shorter by what the library has.
     Shorter,
     /// A question about the statement with a label.
@@ -94,7 +94,9 @@ fn answer_over<W: SearchWatch>(
 {
     match asked {
         Asked::Verdict => accepted_reply(alloc, files, checked),
-        Asked::Axioms => list_reply(checked, all_axioms_text(alloc, checked)),
+        Asked::Axioms { essential } => {
+            list_reply(checked, all_axioms_text(alloc, checked, essential))
+        }
         Asked::Shorter => list_reply(checked, shorter_text(alloc, checked, watch)),
         Asked::About { label, question } => answer_to(alloc, checked, &question, label, watch),
         Asked::File(wanted) => {

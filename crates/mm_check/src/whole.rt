@@ -128,7 +128,10 @@ pub(crate) fn whole_reply<W: SearchWatch>(
         WholeQuestion::Check => checked_reply(alloc, seed, profile, files, Asked::Verdict, watch),
         WholeQuestion::Faults => faults_reply(alloc, seed, profile, files),
         WholeQuestion::Why => why_reply(alloc, seed, profile, files),
-        WholeQuestion::Axioms => checked_reply(alloc, seed, profile, files, Asked::Axioms, watch),
+        WholeQuestion::Axioms { essential } => {
+            let asked = Asked::Axioms { essential };
+            checked_reply(alloc, seed, profile, files, asked, watch)
+        }
         WholeQuestion::Shorter => checked_reply(alloc, seed, profile, files, Asked::Shorter, watch),
     }
 }

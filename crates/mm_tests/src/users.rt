@@ -17,6 +17,16 @@ c $p term ( ( 0 + 0 ) + ( 0 + 0 ) ) $= b u tpl $.
 d $p term 0 $= tze $.
 ";
 
+/// Theorems of two types.
+const TYPES: &[u8] = b"\
+$c a b $.
+one $a a $.
+${ h $e a $. step $a b $. $}
+open $p a $= ? $.
+half $p b $= open step $.
+full $p b $= one step $.
+";
+
 /// Those whose proofs use it.
 pub(crate) const USERS: [(Command<'static>, Case); 6] = [
     (
@@ -221,11 +231,23 @@ pub(crate) const USERS_UNANSWERED: [(Command<'static>, Case); 4] = [
 
 const LINES: Command<'static> = Whole {
     profile: Profile::Lenient,
-    question: WholeQuestion::Axioms,
+    question: WholeQuestion::Axioms { essential: false },
 };
 
 /// What each theorem rests on.
-pub(crate) const ALL_AXIOMS: [(Command<'static>, Case); 4] = [
+pub(crate) const ALL_AXIOMS: [(Command<'static>, Case); 5] = [
+    (
+        Whole {
+            profile: Profile::Lenient,
+            question: WholeQuestion::Axioms { essential: true },
+        },
+        Case {
+            name: "which axioms of its type each theorem rests on",
+            files: &[(b"types.mm", &[Text(TYPES)])],
+            reply: b"? open\nhalf step ?open\nfull step\n",
+            status: 3,
+        },
+    ),
     (
         LINES,
         Case {

@@ -39,7 +39,7 @@ use Rattle.mm_tool.specs.Words.{AreMatchesOf, Asks, Commands, IsAccepted, IsFaul
 use Rattle.mm_tool.specs.Words.{AreAxiomsFlags, AreMinimizeFlags, AreRefusedWords, AreShort}
 use Rattle.mm_tool.specs.Words.{AsksAxioms}
 use Rattle.mm_tool.specs.Words.{AsksMinimize, AsksShorterFile, AsksStatement, DoAgree}
-use Rattle.mm_tool.specs.Words.{IsFilesFault, StandAlone}
+use Rattle.mm_tool.specs.Words.{IsFilesFault, ToStandsAlone}
 use Rattle.mm_tool.specs.Words.{IsNamingFault, IsWordFault, NamesFile, command_line}
 use Rattle.mm_tool.specs.Words.{first_command}
 use Rattle.mm_tool.specs.declared.words.Request.{Request}
@@ -289,15 +289,13 @@ is_some_map f (Some x) = refl
 -- They ask why a theorem rests on an assertion, where the label of one stands behind `--to`.
 pub chain_asked : (words names : List Text) (label : Text) (essential : Bool)
     (to : Option (Bor Text)) (other : Bor Text) (given : Text) → to ≡ Some other
-    → given ≡ other.now → StandAlone false essential (is_some to)
+    → given ≡ other.now → ToStandsAlone false essential (is_some to)
     → AsksAxioms words false essential (option_map (λ o. o.now) to) (label ∷ names) → names ≢ []
     → AsksAxioms words false false (Some given) (label ∷ names) × (names ≢ [])
 chain_asked words names label essential None other given is same alone asked some = absurd (cc)
-chain_asked words names label essential (Some o) other given is same (inl not) asked some =
+chain_asked words names label essential (Some o) other given is same alone asked some =
     let here : o ≡ other = cc in
-    (rw same (rw (not, here) at asked), some)
-chain_asked words names label essential (Some o) other given is same (inr none) asked some =
-    absurd (cc)
+    (rw same (rw (alone.1, here) at asked), some)
 
 -- Else they ask what it rests on.
 pub report_asked : (words names : List Text) (label : Text) (essential : Bool)
@@ -316,16 +314,16 @@ module _ (rows : List Row) (all essential : Bool) (to : Option (Bor Text)) (behi
   by_axioms words commands = (rows, commands, flags, sym files)
 
   -- They ask what each theorem rests on, where `--all` is given.
-  pub all_axioms_asked : (has : Bool) → has ≡ is_some to → StandAlone all essential has
+  pub all_axioms_asked : (has : Bool) → has ≡ is_some to → ToStandsAlone all essential has
       → all ≡ true → (words : List Text) → Commands words (codes "axioms") rows
-      → AsksAxioms words true false None behind
-  all_axioms_asked has same alone given words commands =
-      let both : (essential ≡ false) × (has ≡ false) = rw given at alone in
-      let none : to ≡ None = none_of to (sym same ∙ both.1) in
-      rw (given, both.0, none) at by_axioms words commands
+      → AsksAxioms words true essential None behind
+  all_axioms_asked true same alone given words commands = absurd (cc)
+  all_axioms_asked false same alone given words commands =
+      let none : to ≡ None = none_of to (sym same) in
+      rw (given, none) at by_axioms words commands
 
   -- Flags that exclude each other are refused.
-  pub axioms_refused : (has : Bool) → has ≡ is_some to → ¬ (StandAlone all essential has)
+  pub axioms_refused : (has : Bool) → has ≡ is_some to → ¬ (ToStandsAlone all essential has)
       → (words : List Text) → Commands words (codes "axioms") rows → AreRefusedWords words
   axioms_refused has same several words commands = inr (inr (inr (inl (
     all,

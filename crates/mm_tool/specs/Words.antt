@@ -398,17 +398,17 @@ AsksAxioms words all essential to behind =
     × AreAxiomsFlags rows all essential to
     × (unwrap_or (all_of (codes "FILES") rows) [] ≡ behind)
 
--- At most one of the flags is given.
-abbrev pub StandAlone : (all essential to : Bool) → Type 0
-StandAlone true essential to = (essential ≡ false) × (to ≡ false)
-StandAlone false essential to = (essential ≡ false) ⊎ (to ≡ false)
+-- `--to` is given without the other flags, if it is.
+abbrev pub ToStandsAlone : (all essential to : Bool) → Type 0
+ToStandsAlone all essential true = (all ≡ false) × (essential ≡ false)
+ToStandsAlone all essential false = Unit {0}
 
--- They ask by `axioms` amiss: with two of its flags, or with no file behind the label.
+-- They ask by `axioms` amiss: with `--to` and another flag, or with no file behind the label.
 abbrev pub AsksAxiomsAmiss : List Text → Type 0
 AsksAxiomsAmiss words =
     (all essential : Bool) × (to : Option Text) × (behind : List Text)
     × AsksAxioms words all essential to behind
-    × (¬ (StandAlone all essential (is_some to)) ⊎ ((all ≡ false) × (length behind < 2)))
+    × (¬ (ToStandsAlone all essential (is_some to)) ⊎ ((all ≡ false) × (length behind < 2)))
 
 -- They ask by `statement`, with `--all` or without, and these are the words behind the command: with
 -- `--all` they name the files whose assertions are to be listed.
@@ -553,8 +553,8 @@ abbrev pub AsksWhole : List Text → WholeQuestion → Profile → List Text →
 AsksWhole words Check profile names = AsksUnder (codes "check") words profile names
 AsksWhole words Faults profile names = AsksUnder (codes "faults") words profile names
 AsksWhole words Why profile names = AsksUnder (codes "why") words profile names
-AsksWhole words Axioms profile names =
-    (profile ≡ Lenient) × AsksAxioms words true false None names
+AsksWhole words (Axioms essential) profile names =
+    (profile ≡ Lenient) × AsksAxioms words true essential None names
 AsksWhole words Shorter profile names =
     (profile ≡ Lenient) × AsksMinimize words false true false names
 

@@ -275,7 +275,7 @@ fn form_command<'a>(
 
 /// How `axioms` is used.
 pub(crate) const AXIOMS_USE: &str = "mm axioms [--essential | --to AXIOM] LABEL FILES..
-       mm axioms --all FILES..";
+       mm axioms --all [--essential] FILES..";
 
 /// The command `axioms`, for `clap`.
 fn axioms_command<'a>(alloc: Global) -> Result<Command<'a>, AllocError>

@@ -85,19 +85,20 @@ Example:
 ";
 
 const AXIOMS: &str = "Usage: mm axioms [--essential | --to AXIOM] LABEL FILES..
-       mm axioms --all FILES..
+       mm axioms --all [--essential] FILES..
 
 Checks the database, and lists the axioms that the theorem with this label
 rests on, in the order of the database. Those are all `$a` statements: in set.mm
 syntax and definitions too. No name tells an axiom from a definition: set.mm
 itself calls `df-clab`, `df-cleq` and `df-clel` axioms.
 
-Options, of which at most one is given:
+Options:
   --essential   of the axioms those alone that have the type code of the
                 theorem, as `|-`, so that those of syntax are left out
-  --to AXIOM    why the theorem rests on the assertion with the label AXIOM: a
-                shortest chain of labels, each of which uses the next
   --all         what each theorem rests on, a line for each
+  --to AXIOM    why the theorem rests on the assertion with the label AXIOM: a
+                shortest chain of labels, each of which uses the next; with
+                none of the others
 
 Replies:
   LABEL, one on each line                                           status 0
@@ -124,7 +125,7 @@ Examples:
   mm axioms id set.mm
   mm axioms --essential 2p2e4 set.mm
   mm axioms --to ax-ext 2p2e4 set.mm
-  mm axioms --all set.mm
+  mm axioms --all --essential set.mm
 ";
 
 const USERS: &str = "Usage: mm users [--all] LABEL FILES..

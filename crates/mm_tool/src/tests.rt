@@ -206,16 +206,22 @@ fn asks_by_its_words(rt: HostRuntime) {
         label: b"th".as_slice(),
         question: Question::Axioms { essential: false },
     };
-    let all_axioms = Command::Whole {
+    let all_axioms = |essential| Command::Whole {
         profile: Profile::Lenient,
-        question: WholeQuestion::Axioms,
+        question: WholeQuestion::Axioms { essential },
     };
     let statement = Command::Statement(b"th".as_slice());
     for (words, wanted) in [
         (["mm", "why", "first.mm"].as_slice(), why(Profile::Lenient)),
         (["mm", "axioms", "th", "first.mm"].as_slice(), axioms),
-        (["mm", "axioms", "--all", "first.mm"].as_slice(), all_axioms),
-        (["mm", "axioms", "first.mm", "--all"].as_slice(), all_axioms),
+        (
+            ["mm", "axioms", "first.mm", "--all"].as_slice(),
+            all_axioms(false),
+        ),
+        (
+            ["mm", "axioms", "--all", "--essential", "first.mm"].as_slice(),
+            all_axioms(true),
+        ),
         (["mm", "statement", "th", "first.mm"].as_slice(), statement),
         (
             ["mm", "why", "--strict", "first.mm"].as_slice(),

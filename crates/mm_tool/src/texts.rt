@@ -40,7 +40,8 @@ Commands:
                          checks the database, and lists the axioms that the theorem with this
                          label rests on; with --essential those that have its type code; with --to
                          why it rests on this one, a chain of uses
-  axioms --all FILES..   likewise of each theorem, a line for each
+  axioms --all [--essential] FILES..
+                         likewise of each theorem, a line for each
   users [--all] LABEL FILES..
                          checks the database, and lists the theorems whose proofs use the assertion
                          with this label; with --all those that rest on it

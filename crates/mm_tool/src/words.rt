@@ -8,7 +8,7 @@ ghost use Rattle.mm_check.specs.declared.command.Command.TheVariants.{File, Whol
 ghost use Rattle.mm_check.specs.declared.question.WholeQuestion.TheVariants.{Shorter};
 ghost use Rattle.mm_tool.specs.Words.{AreAxiomsFlags, AreMatchesOf, AreSeveral, AreShort, Asks};
 ghost use Rattle.mm_tool.specs.Words.{AreMinimizeFlags, AsksAbout, AsksAxioms, AsksRun};
-ghost use Rattle.mm_tool.specs.Words.{AsksShow, AsksStatement, StandAlone};
+ghost use Rattle.mm_tool.specs.Words.{AsksShow, AsksStatement, ToStandsAlone};
 ghost use Rattle.mm_tool.specs.Words.{AsksUnder, AsksWhole, Commands, DoAgree, IsFilesFault};
 ghost use Rattle.mm_tool.specs.Words.{IsAllFault, IsFaultOfKind, IsGiven, IsOfKind, IsWordFault};
 ghost use Rattle.mm_tool.specs.Words.{IsNamingFault, NamesFile, NamesNoForm, NamesNoText};
@@ -344,20 +344,20 @@ fn axioms_flags<'a>(matches: &ArgMatches<'a>) -> AxiomsFlags<'a>
     }
 }
 
-/// Whether at most one of the flags of `axioms` is given.
-fn stand_alone(all: bool, essential: bool, to: bool) -> bool
-    ensures { IsTrue result ↔ StandAlone all essential to }
+/// Whether `--to` is given without the other flags of `axioms`, if it is.
+fn to_stands_alone(all: bool, essential: bool, to: bool) -> bool
+    ensures { IsTrue result ↔ ToStandsAlone all essential to }
 {
-    match all {
-        true => !essential && !to,
-        false => !essential || !to,
+    match to {
+        true => !all && !essential,
+        false => true,
     }
 }
 
 /// The question that the flags ask about a theorem; behind `--to` stands another label.
 fn axioms_question<'a>(essential: bool, to: Option<&'a str>) -> Question<'a>
     ensures { (words names : List Text) (label : Text)
-        → StandAlone false essential (is_some to.entry)
+        → ToStandsAlone false essential (is_some to.entry)
         → AsksAxioms words false essential (option_map (λ other. other.now) to.entry)
         (label ∷ names)
         → names ≢ [] → AsksAbout words label result names }
@@ -380,15 +380,17 @@ fn axioms_request<'a>(alloc: Global, matches: &ArgMatches<'a>) -> Result<Request
 {
     let words = values_of(alloc, matches, FILES)?;
     let flags = axioms_flags(matches);
-    if !stand_alone(flags.all, flags.essential, flags.to.is_some()) {
+    if !to_stands_alone(flags.all, flags.essential, flags.to.is_some()) {
         return Err(Stop::Usage(format!(in alloc;
-            "mm: --all, --essential and --to exclude each other\nUsage: {AXIOMS_USE}\n"
+            "mm: --to excludes --all and --essential\nUsage: {AXIOMS_USE}\n"
         )?));
     }
     if flags.all {
         let command = mm_check::Command::Whole {
             profile: Profile::Lenient,
-            question: WholeQuestion::Axioms,
+            question: WholeQuestion::Axioms {
+                essential: flags.essential,
+            },
         };
         return Ok(Request::Run {
             command,

@@ -1,4 +1,5 @@
 -- What all theorems rest on: the numbers of a kind, what a row tells, and the lines of reports.
+use Rattle.std.proofs.Common.{Bool}
 use Rattle.std.proofs.Common.{◌≡◌, ◌↔◌, ℕ, ◌+◌, ◌<◌, ◌≤◌, List, [], ◌∷◌, ◌++◌, take, length, map}
 use Rattle.std.proofs.Common.{get_or, slice_get, Contains, true, Some, inl, inr, refl}
 use Rattle.std.proofs.Common.{sym, ap, subst, ◌∙◌, arith}
@@ -44,7 +45,7 @@ use Rattle.mm_rules.specs.Answer.{labels_at}
 use Rattle.mm_verdict.specs.Reply.{line_with}
 use Rattle.mm_axioms.specs.Reply.{lines_text}
 use Rattle.mm_rules.specs.Verdict.{labels_of}
-use Rattle.mm_axioms.specs.Mirror.Tables.{line_of_report, AreLinesOf}
+use Rattle.mm_axioms.specs.Mirror.Tables.{line_of_report, AreLinesOf, IsToldAt}
 use Rattle.mm_axioms.proofs.Resting.RestsOn.{among_more}
 use Rattle.mm_rules.proofs.Numbers.{label_at, count_labelled}
 use Rattle.mm_verdict.proofs.Questions.AskedTheorems.{numbered_as, proof_or_not, report_by}
@@ -146,17 +147,22 @@ pub of_kind_within : (st : List Sentence) (kind : Kind) (n : ℕ) → IsOfKind s
 of_kind_within st kind n h =
     subst (λ (k : ℕ). n < k) (count_labelled (λ (s : Sentence). s.label) st) (numbered_within st n h.0 h.1 h.2)
 
-pub line_told : (statements : List PlainStatement) (labels : List (List ℕ)) (label : List ℕ) (id : ℕ) (told : Option Report) → labels ≡ labels_of statements
-    → IsReportAt statements label id told → IsReportLine statements id (line_of_report labels label told)
-line_told statements labels label id None same h = (label, inl (h, refl))
-line_told statements labels label id (Some told) same h = (
+pub line_told : (essential : Bool) (statements : List PlainStatement) (labels : List (List ℕ))
+    (label : List ℕ) (id : ℕ) (told : Option Report) → labels ≡ labels_of statements
+    → IsToldAt essential statements label id told
+    → IsReportLine essential statements id (line_of_report labels label told)
+line_told essential statements labels label id None same h = (label, inl (h, refl))
+line_told essential statements labels label id (Some told) same (axioms, report, number, are) = (
   label,
   inr (
-    ids_in told.axioms.items,
+    axioms,
     ids_in told.unproved.items,
-    h.0,
-    h.1,
-    ap (λ (ls : List (List ℕ)). proved_line ls label (ids_in told.axioms.items) (ids_in told.unproved.items)) same,
+    report,
+    number,
+    ids_in told.axioms.items,
+    are,
+    ap (λ (ls : List (List ℕ)).
+        proved_line ls label (ids_in told.axioms.items) (ids_in told.unproved.items)) same,
   ),
 )
 
@@ -166,13 +172,16 @@ zip_push R (a ∷ xs) (b ∷ ys) x y h r = (h.0, zip_push R xs ys x y h.1 r)
 zip_push R _ _ x y h r = absurd h
 
 -- one more line
-pub lines_more : (statements : List PlainStatement) (xs : List LabelId) (k : ℕ) (x : LabelId) (line : ReportLine) (old new : List ℕ) → slice_get xs k ≡ Some x
-    → AreLinesOf statements (ids_in (take k xs)) old → IsReportLine statements x.0 line → new ≡ old ++ lines_text (line ∷ [])
-    → AreLinesOf statements (ids_in (take (k + 1) xs)) new
-lines_more statements xs k x line old new at (lines, each, said) is e = (
+pub lines_more : (essential : Bool) (statements : List PlainStatement) (xs : List LabelId) (k : ℕ)
+    (x : LabelId) (line : ReportLine) (old new : List ℕ) → slice_get xs k ≡ Some x
+    → AreLinesOf essential statements (ids_in (take k xs)) old
+    → IsReportLine essential statements x.0 line → new ≡ old ++ lines_text (line ∷ [])
+    → AreLinesOf essential statements (ids_in (take (k + 1) xs)) new
+lines_more essential statements xs k x line old new at (lines, each, said) is e = (
   lines ++ line ∷ [],
-  subst (λ (ns : List ℕ). AllZip (IsReportLine statements) ns (lines ++ line ∷ [])) (sym (among_more xs k x at))
-      (zip_push (IsReportLine statements) (ids_in (take k xs)) lines x.0 line each is),
+  subst (λ (ns : List ℕ). AllZip (IsReportLine essential statements) ns (lines ++ line ∷ []))
+      (sym (among_more xs k x at))
+      (zip_push (IsReportLine essential statements) (ids_in (take k xs)) lines x.0 line each is),
   e ∙ ap (λ (t : List ℕ). t ++ lines_text (line ∷ [])) said
       ∙ sym (flat_map-append (λ (l : ReportLine). line_with l.word l.others) lines (line ∷ [])),
 )

@@ -1,7 +1,7 @@
 -- Tables of what all theorems rest on. This file mirrors the code, and is cited by private
 -- contracts alone.
 use Rattle.std.specs.Prelude.{◌≡◌, ◌↔◌, ℕ, List, slice_get, Some, None}
-use Rattle.std.specs.Prelude.{Option, true}
+use Rattle.std.specs.Prelude.{Option, Bool, true}
 use Rattle.std.specs.List.{AllZip}
 use Rattle.mm_base.specs.declared.statement.Kind.{Kind}
 use Rattle.mm_base.specs.Statement.{PlainStatement}
@@ -11,8 +11,9 @@ use Rattle.mm_step.specs.Plain.{ids_in}
 use Rattle.mm_axioms.specs.declared.report.Report.{Report}
 use Rattle.mm_axioms.specs.declared.report.Tables.{Tables}
 use Rattle.mm_rules.specs.Conclusion.{ProofUses}
-use Rattle.mm_rules.specs.Verdict.{is_unproved}
+use Rattle.mm_rules.specs.Verdict.{is_unproved, sentences}
 use Rattle.mm_rules.specs.Rests.{AreInOrder, RestsOn, IsNamed, IsReport}
+use Rattle.mm_axioms.specs.Essential.{AreTold}
 use Rattle.mm_axioms.specs.AllAxioms.{ReportLine, IsReportLine, unproved_line, proved_line}
 use Rattle.mm_axioms.specs.Reply.{lines_text}
 use Rattle.mm_axioms.specs.Mirror.Bits.{has_number}
@@ -44,6 +45,16 @@ IsReportAt statements label id (Some told) =
     (report : IsReport statements label (ids_in told.axioms.items) (ids_in told.unproved.items))
     × (report.id ≡ id)
 
+-- the theorem with a number and a label is unproved, or this is told of its report
+abbrev pub IsToldAt : (essential : Bool) → List PlainStatement → List ℕ → ℕ → Option Report
+    → Type 0
+IsToldAt essential statements label id None =
+    IsNamed statements label (λ s. is_unproved s ≡ true) id
+IsToldAt essential statements label id (Some told) =
+    (axioms : List ℕ) × (report : IsReport statements label axioms (ids_in told.unproved.items))
+    × (report.id ≡ id)
+    × AreTold essential (sentences statements) id axioms (ids_in told.axioms.items)
+
 -- the numbers in the row of the theorem
 abbrev pub AreReached : List ℕ → PlainRows → ℕ → List ℕ → Type 0
 AreReached numbers rows id ids =
@@ -62,7 +73,7 @@ line_of_report labels label (Some told) =
     proved_line labels label (ids_in told.axioms.items) (ids_in told.unproved.items)
 
 -- lines for these theorems, whose text this is
-abbrev pub AreLinesOf : List PlainStatement → List ℕ → List ℕ → Type 0
-AreLinesOf statements theorems text =
-    (lines : List ReportLine) × AllZip (IsReportLine statements) theorems lines
+abbrev pub AreLinesOf : (essential : Bool) → List PlainStatement → List ℕ → List ℕ → Type 0
+AreLinesOf essential statements theorems text =
+    (lines : List ReportLine) × AllZip (IsReportLine essential statements) theorems lines
     × (text ≡ lines_text lines)

@@ -14,6 +14,6 @@ pub returns : goal.returns
 returns c =
     IfOk-weaker c.lines_of.result _ _
     (λ text told statements reads.
-    let (lines, each, said) = subst (λ (ids : List LabelId). AreLinesOf statements (ids_in ids) text.items) c.deref.ensures.value (told statements reads) in
+    let (lines, each, said) = subst (λ (ids : List LabelId). AreLinesOf c.args.essential statements (ids_in ids) text.items) c.deref.ensures.value (told statements reads) in
     (lines, record { theorems = ids_in c.in_ok-theorems.theorems.items; are_theorems = c.in_ok-theorems.ensures.told statements reads; each = each }, said))
     c.lines_of.ensures

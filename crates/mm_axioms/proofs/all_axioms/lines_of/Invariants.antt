@@ -8,4 +8,4 @@ use Rattle.mm_axioms.proofs.all_axioms.lines_of.Given as goal
 abbrev pub invariant-loop-theorem : goal.invariant-loop-theorem
 invariant-loop-theorem l =
     (statements : List PlainStatement) → Reads l.checked.files statements None
-    → AreLinesOf statements (map (λ x. x.0) (take l.theorem-index l.theorems)) l.out.items
+    → AreLinesOf l.essential statements (map (λ x. x.0) (take l.theorem-index l.theorems)) l.out.items

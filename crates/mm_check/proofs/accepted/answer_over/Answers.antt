@@ -37,7 +37,8 @@ returns-in-Verdict g c =
 pub returns-in-Axioms : goal.returns-in-Axioms
 returns-in-Axioms g c =
     rw c.in-Axioms.is
-    (list_told c.args.checked.now (λ statements text. ListsAxioms statements text) _ _
+    (list_told c.args.checked.now
+    (λ statements text. ListsAxioms c.in-Axioms.essential statements text) _ _
     c.all_axioms_text.ensures c.list_reply.ensures)
 
 pub returns-in-Shorter : goal.returns-in-Shorter

@@ -8,18 +8,18 @@ use Rattle.mm_tool.proofs.AskedWords.{all_axioms_asked, axioms_refused, label_as
 use Rattle.mm_tool.proofs.AskedWords.{label_refused}
 use Rattle.mm_tool.proofs.words.axioms_request.Goals as goal
 
-pub returns-then-not-stand_alone-clause-fault : goal.returns-then-not-stand_alone-clause-fault
-returns-then-not-stand_alone-clause-fault c =
+pub returns-then-not-to_stands_alone-clause-fault : goal.returns-then-not-to_stands_alone-clause-fault
+returns-then-not-to_stands_alone-clause-fault c =
     axioms_refused (rows_of (found_of c.args.matches.now)) _ _ _ _ c.axioms_flags-flags.ensures
     c.in_ok-words.ensures _ c.is_some.ensures
-    (λ alone. let is : IsTrue c.stand_alone.result = c.stand_alone.ensures.1 alone in search rules)
+    (λ alone. let is : IsTrue c.to_stands_alone.result = c.to_stands_alone.ensures.1 alone in search rules)
 
 pub returns-then-flags-clause-request : goal.returns-then-flags-clause-request
 returns-then-flags-clause-request c = λ words commands.
-    let is : IsTrue c.stand_alone.result = search rules in (
+    let is : IsTrue c.to_stands_alone.result = search rules in (
       refl,
       all_axioms_asked (rows_of (found_of c.args.matches.now)) _ _ _ _ c.axioms_flags-flags.ensures
-          c.in_ok-words.ensures _ c.is_some.ensures (c.stand_alone.ensures.0 is) c.if-flags.true
+          c.in_ok-words.ensures _ c.is_some.ensures (c.to_stands_alone.ensures.0 is) c.if-flags.true
           words commands,
     )
 
@@ -36,10 +36,10 @@ returns-in_err-label-clause-fault c =
 pub returns-clause-request : goal.returns-clause-request
 returns-clause-request c = λ words commands.
     let rows : List Row = rows_of (found_of c.args.matches.now) in
-    let is : IsTrue c.stand_alone.result = search rules in
+    let is : IsTrue c.to_stands_alone.result = search rules in
     let parts = c.in_ok-label.ensures.parts in
     c.axioms_question.ensures words _ _
-    (rw (c.if-flags.false, c.is_some.ensures) at c.stand_alone.ensures.0 is)
+    (rw (c.if-flags.false, c.is_some.ensures) at c.to_stands_alone.ensures.0 is)
     (rw c.as_bytes.ensures.value (label_asked rows _ _ _ _ c.axioms_flags-flags.ensures
     c.in_ok-words.ensures c.if-flags.false _ _ _
     (ap (map (λ word. word.now)) c.deref.ensures.value) parts.0 words commands))
