@@ -325,14 +325,15 @@ def growing(folder, size):
           "th $p |- a $= ( nil cat begin step drop )\n",
           in_lines(f"{value}{value}{chain(6)}{chain(6 + length - 1)}E"), "$.\n")
     return asked(0, "check f.mm", "show --essential th f.mm", "axioms th f.mm", "small th f.mm",
-                 "minimize th f.mm", "minimize --list f.mm")
+                 "minimize th f.mm", "minimize --list f.mm", "lemmas --list f.mm")
 
 
 def syntax(folder, size):
     """So many axioms of one shape, and a theorem by the first."""
     write(folder, "f.mm", HEAD, (f"x{at} $a a a $.\n" for at in range(size)),
           "ax $a |- x $. th $p |- a $= x0 ax $.\n")
-    return asked(0, "check f.mm", "axioms --all f.mm", "minimize th f.mm", "minimize --list f.mm")
+    return asked(0, "check f.mm", "axioms --all f.mm", "minimize th f.mm", "minimize --list f.mm",
+                 "lemmas --list f.mm")
 
 
 def stars(folder, size):

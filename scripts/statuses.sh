@@ -382,7 +382,7 @@ for words in --help -h help '--help check' '-h nonsense'; do
     prints help.txt $words
 done
 narrow help.txt 100
-commands='check faults why axioms users statement find show normal packed small minimize same try explain help version'
+commands='check faults why axioms users statement find show normal packed small minimize lemmas same try explain help version'
 for command in $commands; do
     constant=$(echo "$command" | tr a-z A-Z)
     literal pages.rt "$constant" >page.txt
@@ -477,6 +477,8 @@ misused show --uses th
 misused show --essential --essential th first.mm
 misused minimize --all --all first.mm first.mm
 misused minimize --list --list first.mm
+misused lemmas --list --list first.mm
+misused lemmas --list --most 1 --most 1 first.mm
 misused check --strict --strict first.mm
 misused check -first.mm
 misused help check axioms
@@ -537,6 +539,27 @@ for flags in '--all --list' '--list --duplicates' '--all --list --duplicates' --
 done
 for name in none.mm ./first.mm th; do
     ends 2 '' "mm: $name is none of the files\n$minimize_use" minimize --all $name first.mm
+done
+lemmas_use='Usage: mm lemmas --list [--most N] [--least BYTES] FILES..
+'
+for words in '<FILES>...:lemmas' '<FILES>...:lemmas --list --most 1' \
+    '--list:lemmas first.mm' '--list:lemmas --most x first.mm'; do
+    ends 2 '' "error: the following required arguments were not provided:
+  ${words%%:*}
+
+$lemmas_use
+For more information, try '--help'.\n" ${words#*:}
+done
+for option in most least; do
+    for word in x 0 00 -1 1x 0x1 4294967296 99999999999999999999 + ''; do
+        ends 2 '' "error: invalid value '$word' for '--$option <$option>': \
+it is no number from 1 to 4294967295
+
+For more information, try '--help'.\n" lemmas --list "--$option=$word" first.mm
+    done
+    for word in 1 4294967295 +1 01; do
+        ends 0 '0 lemmas 0 0\n' '' lemmas --list "--$option" "$word" first.mm
+    done
 done
 begins 2 '' "error: unexpected argument '--strict' found" axioms --strict th first.mm
 explains P8 p8
@@ -773,6 +796,30 @@ for words in 'th' --list '--all first.mm'; do
     ends 4 '' 'mm: cannot read none.mm\n' minimize $words first.mm none.mm
 done
 
+# Lemmas: what is told of them, how many at most, and how many bytes each saves at least.
+lemma='13 5 5 disjunction-is-commutative 1 disjunction-is-weaker : |- P => |- ( Q or P )\n'
+sed '$a open $p |- a $= ? $.' lacking.mm >unproved.mm
+for options in '' '--most 1' '--least 13' '--most 1 --least 13' '--most 4294967295'; do
+    ends 0 "${lemma}1 lemmas 13 5\n" '' lemmas --list $options lacking.mm
+    ends 3 "${lemma}1 lemmas 13 5\n" '' lemmas $options unproved.mm --list
+done
+for least in 14 100; do
+    ends 0 '0 lemmas 0 0\n' '' lemmas --list --least $least lacking.mm
+done
+sed 's/^one /$( (Proof modification is discouraged.) $)\n&/' lacking.mm >settled.mm
+sed 's/^  disj/  $( (New usage is discouraged.) $)\n&/' lacking.mm >discouraged.mm
+for file in settled.mm discouraged.mm empty.mm; do
+    ends 0 '0 lemmas 0 0\n' '' lemmas --list $file
+done
+{ cat lacking.mm; printf '${ h $e |- Q $. late $p |- ( P or Q ) $=\n'
+    printf '  wq wp wq wp h disjunction-is-weaker disjunction-is-commutative $. $}\n'; } >late.mm
+ends 0 '58 6 6 disjunction-is-commutative 1 disjunction-is-weaker is late : |- P => |- ( Q or P )\n1 lemmas 58 6\n' \
+    '' lemmas --list late.mm
+watched '\rmm: 1 of 1 theorems, 13 bytes saved\r\n' lemmas --list lacking.mm
+ends 1 'no twice.mm 2 - M2 0\n' '' lemmas --list twice.mm
+ends 4 'load F2\n' '' lemmas --list first.mm first.mm
+ends 4 '' 'mm: cannot read none.mm\n' lemmas --list first.mm none.mm
+
 # Zeros, one more than the files may hold, of which the file system need not keep any.
 truncate -s 1073741825 long.mm
 ends 4 'load F3\n' '' check long.mm none.mm
@@ -801,6 +848,7 @@ if [ -w /dev/full ]; then
     full 4 'mm: cannot write\n' version
     full 4 'mm: cannot write\n' packed --all first.mm first.mm
     full 4 'mm: cannot write\n' minimize --list first.mm
+    full 4 'mm: cannot write\n' lemmas --list first.mm
     mute 2 '' check
     mute 2 '' help nonsense
     mute 4 '' check none.mm

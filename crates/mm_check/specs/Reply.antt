@@ -26,7 +26,7 @@ use Rattle.mm_rules.specs.declared.ask.AskFault.{AskFault}
 use Rattle.mm_rules.specs.declared.ask.AskFault.TheVariants as ask
 use Rattle.mm_check.specs.declared.command.Command.{Command}
 use Rattle.mm_check.specs.declared.command.Command.TheVariants.{Whole, About, Lone, File, Shorter}
-use Rattle.mm_check.specs.declared.command.Command.TheVariants.{Find, Statement}
+use Rattle.mm_check.specs.declared.command.Command.TheVariants.{Find, Statement, Lemmas}
 use Rattle.mm_check.specs.Chain.{IsChainReply}
 use Rattle.mm_find.specs.Reply.{IsFindReply, query_for}
 use Rattle.mm_check.specs.declared.question.Question.{Question}
@@ -57,6 +57,7 @@ use Rattle.mm_verdict.specs.Stated.{TellsStatement}
 use Rattle.mm_save.specs.AllSaved.{IsAllSaved, IsFirstTooLong, IsAllSaveFault}
 use Rattle.mm_minimize.specs.AllShorter.{IsAllShortened, IsAllShorterFault, ShorterLine}
 use Rattle.mm_minimize.specs.AllShorter.{AreShorterLines, shorter_text}
+use Rattle.mm_lemmas.specs.Told.{ListsLemmas}
 use Rattle.mm_rules.specs.Verdict.{PlainRefusal, Verdict, Load, Refused, Incomplete, Yes}
 use Rattle.mm_rules.specs.Verdict.{HasVerdict, AreAccepted, labels_of, proof_of, sentences}
 use Rattle.mm_rules.specs.Verdict.{refusal_of}
@@ -270,6 +271,13 @@ ListsShorter profile files statements text =
     (lines : List ShorterLine) × AreShorterLines profile files statements lines
     × (text ≡ shorter_text statements lines)
 
+-- The reply to the question which lemmas the library lacks: where the lenient profile accepts the
+-- files, a line for each that a search finds, so many at most, each of which saves so many bytes or
+-- more, and the sums. That a lemma follows isn't judged.
+abbrev pub IsLemmasReply : (most least : ℕ) → List PlainFile → List ℕ → ℕ → Type 0
+IsLemmasReply most least files text status =
+    IsQuestionReply Lenient files (IsListAnswer (ListsLemmas most least) Lenient files) text status
+
 -- ---- one theorem alone
 
 -- The reply where the files can't be taken, or are refused before it is known what stands at the
@@ -400,6 +408,7 @@ IsReplyTo files (File wanted number) text status =
     IsQuestionReply Lenient files (IsAllSavedReply wanted files number) text status
 IsReplyTo files (Shorter number duplicates) text status =
     IsQuestionReply Lenient files (IsAllShortenedReply Lenient duplicates files number) text status
+IsReplyTo files (Lemmas most least) text status = IsLemmasReply most least files text status
 IsReplyTo files (Find patterns whole hypotheses) text status =
     IsFindReply (query_for (texts patterns.now) whole hypotheses) files text status
 

@@ -12,11 +12,13 @@ ghost use Rattle.mm_rules.specs.Verdict.{HasVerdict};
 ghost use Rattle.mm_verdict.specs.Reply.{status_of};
 ghost use Rattle.mm_check.specs.Asked.{AsksWithin, IsAnswerOver};
 ghost use Rattle.mm_check.specs.Reply.{IsQuestionReply, ListsShorter};
+ghost use Rattle.mm_lemmas.specs.Told.{ListsLemmas};
 
 use crate::question::{Question, answer_to, text_reply};
 use mm_axioms::all_axioms_text;
 use mm_base::{File, Seed};
-use mm_minimize::{SearchWatch, Wanted, minimized_file, minimized_list};
+use mm_lemmas::{LemmaList, Selection, lemma_list};
+use mm_minimize::{SearchWatch, Searched, Wanted, minimized_file, minimized_list};
 use mm_rules::{AskFault, CheckFault, name_of};
 use mm_step::Profile;
 use mm_verdict::{Checked, Reply, accepted_reply, check_with, conclusion_status, verdict_reply};
@@ -38,6 +40,8 @@ pub(crate) enum Asked<'a> {
     },
     /// For the bytes of a file with shorter proofs.
     File(Wanted),
+    /// Which lemmas the library lacks.
+    Lemmas(Selection),
 }
 
 /// The reply that lists this of the whole database.
@@ -75,6 +79,31 @@ fn shorter_text<W: SearchWatch>(
     }
 }
 
+/// A line for each lemma that the library lacks, and the sums. The watch is told where the search
+/// was broken off.
+fn lemmas_text<W: SearchWatch>(
+    alloc: Global,
+    checked: &Checked,
+    selection: Selection,
+    watch: &mut W,
+) -> Result<Vec<u8>, AllocError>
+    ensures { IfOk result (λ text. (statements : List PlainStatement)
+        → Reads checked.now.files statements None
+        → ListsLemmas selection.most selection.least statements text.items) }
+{
+    match lemma_list(alloc, checked, selection, watch) {
+        Ok(LemmaList { text, is_cut }) => {
+            if is_cut {
+                watch.searched(Searched::BrokenOff);
+            }
+            Ok(text)
+        }
+        Err(AskFault::Memory) => Err(AllocError),
+        // Nothing but lack of memory keeps the list from being made.
+        Err(_) => unreachable!(),
+    }
+}
+
 /// The answer of a database in which nothing is at fault.
 fn answer_over<W: SearchWatch>(
     alloc: Global,
@@ -102,6 +131,9 @@ fn answer_over<W: SearchWatch>(
         Asked::File(wanted) => {
             let name = name_of(files, wanted.number);
             text_reply(alloc, name, minimized_file(alloc, checked, wanted, watch))
+        }
+        Asked::Lemmas(selection) => {
+            list_reply(checked, lemmas_text(alloc, checked, selection, watch))
         }
     }
 }

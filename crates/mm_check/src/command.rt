@@ -12,7 +12,7 @@ use crate::accepted::{Asked, checked_reply};
 use crate::alone::lone_reply;
 use crate::question::{LoneQuestion, Question, WholeQuestion};
 use crate::stated::statement_reply;
-use crate::whole::{all_saved_reply, whole_reply};
+use crate::whole::{all_saved_reply, lemmas_reply, whole_reply};
 use mm_base::{File, Seed};
 use mm_find::{Sought, find_reply};
 use mm_minimize::{SearchWatch, Wanted};
@@ -59,6 +59,12 @@ pub enum Command<'a> {
         file: usize,
         duplicates: bool,
     },
+    /// For a line for each lemma that the library lacks, as a search finds them: so many at most,
+    /// each of which saves so many bytes or more.
+    Lemmas {
+        most: usize,
+        least: usize,
+    },
     /// For a line for each assertion with each of these patterns, whatever the proofs; if `whole`,
     /// as whole expressions; if `hypotheses`, also in essential hypotheses. A pattern has at most
     /// 1,073,741,824 bytes, and its tokens stand between white space. Where there is none, for each
@@ -91,7 +97,8 @@ impl From<AllocError> for RunFault {
 
 /// The reply to a command over the files, the first of which is the top file, before it is written.
 /// Where shorter proofs are looked for in all of them, the watch is told after each theorem how far
-/// this has come. Where they are looked for at all, it is told what that came to.
+/// this has come; where lemmas are, after each of them. Where shorter proofs are looked for at all,
+/// it is told what that came to, and where a search for lemmas is broken off, that it is.
 pub fn reply_to<W: SearchWatch>(
     alloc: Global,
     seed: Seed,
@@ -123,6 +130,9 @@ pub fn reply_to<W: SearchWatch>(
                 duplicates: *duplicates,
             });
             checked_reply(alloc, seed, Profile::Lenient, files, asked, watch)
+        }
+        Command::Lemmas { most, least } => {
+            lemmas_reply(alloc, seed, files, *most, *least, watch)
         }
         Command::Find {
             patterns,

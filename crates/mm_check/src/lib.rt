@@ -1,9 +1,9 @@
 //! The commands and their replies: the front of the library.
 //! It answers `run` and `reply_to`: files and a command in, the text and the status of the reply
 //! out. It stands on all crates that answer questions: verdict, axioms, texts, explanations,
-//! saving, shorter proofs. Begin with `command`, then `accepted` and `question` (of databases in
-//! which nothing is at fault), `whole` (of all faults, and of all proofs of a file), `alone` (of one
-//! theorem, whatever its proof) and `stated` (of one statement). What a reply is stands in
+//! saving, shorter proofs, lemmas. Begin with `command`, then `accepted` and `question` (of databases
+//! in which nothing is at fault), `whole` (of all faults, and of all proofs of a file), `alone` (of
+//! one theorem, whatever its proof) and `stated` (of one statement). What a reply is stands in
 //! `specs/Reply.antt`.
 #![tactic(auto)]
 

@@ -1,4 +1,4 @@
-//! Replies to questions about the whole database, and for a whole file.
+//! Replies to questions about the whole database, for a whole file, and for lemmas.
 
 ghost use Rattle.std.specs.Prelude.{◌≡◌, ◌<◌, ◌∷◌, List, map, length, IfOk, IfErr};
 ghost use Rattle.mm_text.specs.Files.{plain_file};
@@ -11,12 +11,13 @@ ghost use Rattle.mm_rules.specs.Verdict.{HasVerdict};
 ghost use Rattle.mm_verdict.specs.Faults.{AreAllFaults};
 ghost use Rattle.mm_verdict.specs.Reply.{refusals_text, refusal_status};
 ghost use Rattle.mm_check.specs.Reply.{IsFaultsReply, IsWhyReply, IsAllSavedReply};
-ghost use Rattle.mm_check.specs.Reply.{IsQuestionReply, IsWholeReply};
+ghost use Rattle.mm_check.specs.Reply.{IsLemmasReply, IsQuestionReply, IsWholeReply};
 
 use crate::accepted::{Asked, checked_reply};
 use crate::question::WholeQuestion;
 use mm_base::{File, Seed};
 use mm_explain::{Unaccepted, explained};
+use mm_lemmas::Selection;
 use mm_minimize::SearchWatch;
 use mm_render::SaveFault;
 use mm_rules::{AskFault, AskRule, CheckFault, Refusal, Status, name_of};
@@ -134,6 +135,23 @@ pub(crate) fn whole_reply<W: SearchWatch>(
         }
         WholeQuestion::Shorter => checked_reply(alloc, seed, profile, files, Asked::Shorter, watch),
     }
+}
+
+/// The reply to the question which lemmas the library lacks: so many at most, each of which saves
+/// so many bytes or more.
+pub(crate) fn lemmas_reply<W: SearchWatch>(
+    alloc: Global,
+    seed: Seed,
+    files: &[File],
+    most: usize,
+    least: usize,
+    watch: &mut W,
+) -> Result<Reply, AllocError>
+    ensures { IfOk result (λ reply. IsLemmasReply most least (map plain_file files.now)
+        reply.text.items (number_of reply.status)) }
+{
+    let asked = Asked::Lemmas(Selection { most, least });
+    checked_reply(alloc, seed, Profile::Lenient, files, asked, watch)
 }
 
 /// The reply to the question for the file with a number, with each complete proof in a form.

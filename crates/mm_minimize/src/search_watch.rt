@@ -1,9 +1,9 @@
-//! What a search for shorter proofs came to, told beside the reply.
+//! What a search came to, told beside the reply.
 
 use crate::shorter_list::Sizes;
 use mm_verdict::{Unwatched, Watch};
 
-/// What a search for shorter proofs came to.
+/// What a search for shorter proofs, or for lemmas, came to.
 #[derive(Clone, Copy)]
 pub enum Searched {
     /// So many theorems were left as they are, as their proofs are too long to search.
@@ -17,10 +17,12 @@ pub enum Searched {
         /// The size of the shorter one.
         new: Sizes,
     },
+    /// The search for lemmas was broken off, as it took too long.
+    BrokenOff,
 }
 
-/// What is told how far a search for shorter proofs has come, and what it came to. It answers
-/// nothing.
+/// What is told how far a search for shorter proofs, or for lemmas, has come, and what it came to.
+/// It answers nothing.
 pub trait SearchWatch: Watch {
     /// The search came to its end.
     fn searched(&mut self, searched: Searched);

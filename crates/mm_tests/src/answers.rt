@@ -95,7 +95,7 @@ fn called(alloc: Global, command: &Command, files: &[File]) -> Result<Answer, Fa
 fn label_of<'a>(command: &Command<'a>) -> &'a [u8] {
     match command {
         Command::Whole { .. } | Command::File { .. } | Command::Shorter { .. } => b"",
-        Command::Find { .. } => b"",
+        Command::Find { .. } | Command::Lemmas { .. } => b"",
         Command::About { label, .. } | Command::Lone { label, .. } => label,
         Command::Statement(label) => label,
     }

@@ -6,6 +6,7 @@ mod devices;
 mod diff;
 mod find;
 mod growths;
+mod lemmas;
 mod near;
 mod profiles;
 mod save;

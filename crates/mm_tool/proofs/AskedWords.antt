@@ -41,6 +41,8 @@ use Rattle.mm_tool.specs.Words.{AsksAxioms}
 use Rattle.mm_tool.specs.Words.{AsksMinimize, AsksShorterFile, AsksStatement, DoAgree}
 use Rattle.mm_tool.specs.Words.{IsFilesFault, ToStandsAlone}
 use Rattle.mm_tool.specs.Words.{IsNamingFault, IsWordFault, NamesFile, command_line}
+use Rattle.mm_tool.specs.Words.{IsNoNumberBehind, IsNumberBehind, IsNumberFault, SaysNoNumber}
+use Rattle.mm_tool.specs.Words.{SaysNumber}
 use Rattle.mm_tool.specs.Words.{first_command}
 use Rattle.mm_tool.specs.declared.words.Request.{Request}
 use Rattle.mm_tool.specs.declared.words.Request.TheVariants.{Help, Version, Run}
@@ -469,6 +471,50 @@ module _ (rows : List Row) (all list duplicates : Bool) (behind : List Text)
   ))))))
   name_refused given parts Memory same none words commands = tt
   name_refused given parts other same none words commands = absurd none
+
+-- ---- `lemmas`
+
+-- The usual number is asked for where the option isn't given.
+pub usual_number : (word : Option (Bor Text)) (given : Option Text) (usual : ℕ)
+    → option_map (λ w. w.now) word ≡ given → word ≡ None → IsNumberBehind given usual usual
+usual_number word given usual same none = rw (← same, none) refl
+
+-- Else the one that the word behind it says is.
+pub said_number : (word : Option (Bor Text)) (given : Option Text) (said : Bor Text) (usual n : ℕ)
+    → option_map (λ w. w.now) word ≡ given → word ≡ Some said → SaysNumber said.now n
+    → IsNumberBehind given usual n
+said_number word given said usual n same some says = rw (← same, some) says
+
+-- The word behind it may say none.
+pub said_none : (word : Option (Bor Text)) (given : Option Text) (said : Bor Text)
+    → option_map (λ w. w.now) word ≡ given → word ≡ Some said → SaysNoNumber said.now
+    → IsNoNumberBehind given
+said_none word given said same some none = rw (← same, some) none
+
+-- Without `--list` the words are refused.
+pub unlisted_refused : (rows : List Row) (listed : Bool) → IsGiven (codes "list") rows listed
+    → listed ≡ false → (words : List Text) → Commands words (codes "lemmas") rows
+    → AreRefusedWords words
+unlisted_refused rows listed list not words commands =
+    inr (inr (inr (inr (inr (inr (inr (inr (rows, commands, inl (rw not at list)))))))))
+
+-- So they are where the word behind `--most` says no number.
+pub most_refused : (rows : List Row) (stop : Stop)
+    → IsNumberFault (first_of (codes "most") rows) stop → (words : List Text)
+    → Commands words (codes "lemmas") rows → IsWordFault words stop
+most_refused rows (Usage text) none words commands =
+    inr (inr (inr (inr (inr (inr (inr (inr (rows, commands, inr (inl none)))))))))
+most_refused rows Memory none words commands = tt
+most_refused rows other none words commands = absurd none
+
+-- And where the one behind `--least` does.
+pub least_refused : (rows : List Row) (stop : Stop)
+    → IsNumberFault (first_of (codes "least") rows) stop → (words : List Text)
+    → Commands words (codes "lemmas") rows → IsWordFault words stop
+least_refused rows (Usage text) none words commands =
+    inr (inr (inr (inr (inr (inr (inr (inr (rows, commands, inr (inr none)))))))))
+least_refused rows Memory none words commands = tt
+least_refused rows other none words commands = absurd none
 
 -- ==== the code that words ask for, and the rule that has it
 

@@ -16,7 +16,7 @@ use Rattle.mm_minimize.specs.declared.search_watch.Searched.{Searched}
 use Rattle.mm_check.specs.declared.command.Command.{Command}
 use Rattle.mm_code.specs.Layout.{texts}
 use Rattle.mm_check.specs.declared.command.Command.TheVariants.{Whole, About, File, Lone, Shorter}
-use Rattle.mm_check.specs.declared.command.Command.TheVariants.{Find, Statement}
+use Rattle.mm_check.specs.declared.command.Command.TheVariants.{Find, Statement, Lemmas}
 use Rattle.mm_check.specs.declared.question.Question.TheVariants.{Same}
 use Rattle.mm_check.specs.declared.question.LoneQuestion.TheVariants as lone
 use Rattle.mm_tool.specs.declared.words.TextQuestion.{TextQuestion}
@@ -73,10 +73,11 @@ label_of (Lone label question) = Some label.now
 label_of (Statement label) = Some label.now
 label_of (File form number) = None
 label_of (Shorter number duplicates) = None
+label_of (Lemmas most least) = None
 label_of (Find patterns whole hypotheses) = None
 
--- These are the notes beside the reply to the command, and then the line on what a search for
--- shorter proofs came to. What it came to isn't said.
+-- These are the notes beside the reply to the command, and then the line on what a search came to.
+-- What it came to isn't said.
 pub record AreAllNotes (files : List PlainFile) (command : Command) (reply notes : List ℕ)
     : Type 0 where
   pub beside : List ℕ

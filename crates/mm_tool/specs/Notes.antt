@@ -1,5 +1,5 @@
 -- The notes on files that were handed in and not included, on a label that no statement has, and on
--- what a search for shorter proofs came to.
+-- what a search for shorter proofs, or for lemmas, came to.
 use Rattle.std.specs.Prelude.{◌≡◌, ℕ, ◌-◌, ◌==◌, List, [], ◌++◌, length, map, take, codes, decimal}
 use Rattle.std.specs.Prelude.{if◌then◌else◌, Option, Some, None, ◌⊎◌}
 use Rattle.std.specs.List.{flat_map}
@@ -92,20 +92,23 @@ left_note count =
 abbrev pub change_text : (first : List ℕ) → ℕ → (second : List ℕ) → ℕ → List ℕ
 change_text first old second new = first ++ (decimal old ++ (second ++ decimal new))
 
--- the line on what a search for shorter proofs came to: how many theorems were left; or of one
--- theorem the sizes of its own proof and of a shorter one, if one was found
+-- the line on what a search came to: how many theorems were left; or of one theorem the sizes of
+-- its own proof and of a shorter one, if one was found; or that a search for lemmas was broken off
 abbrev pub searched_line : Searched → List ℕ
 searched_line (of_search.Left count) = left_note count
 searched_line of_search.NoneShorter = codes "mm: no shorter proof was found\n"
 searched_line (of_search.Shorter own new) =
     change_text (codes "mm: ") own.bytes (codes " bytes -> ") new.bytes
     ++ (change_text (codes ", ") own.steps (codes " steps -> ") new.steps ++ codes "\n")
+searched_line of_search.BrokenOff =
+    codes "mm: note: the search was broken off, as it took too long\n"
 
--- Of a command that searches for shorter proofs the line on what it came to, where it came to
--- something; of another nothing.
+-- Of a command that searches for shorter proofs, or for lemmas, the line on what it came to, where
+-- it came to something; of another nothing.
 abbrev pub search_line : Command → Option Searched → List ℕ
 search_line asked None = []
 search_line (commands.Whole profile questions.Shorter) (Some searched) = searched_line searched
 search_line (commands.About label Minimized) (Some searched) = searched_line searched
 search_line (commands.Shorter number duplicates) (Some searched) = searched_line searched
+search_line (commands.Lemmas most least) (Some searched) = searched_line searched
 search_line other (Some searched) = []

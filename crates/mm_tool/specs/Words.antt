@@ -2,9 +2,10 @@
 -- them. The first word is the program's name.
 use Rattle.std.specs.Prelude.{◌≡◌, ◌≢◌, ◌↔◌, List, [], map, Some, Bool, true, IsTrue, codes}
 use Rattle.std.specs.Prelude.{ℕ, Option, None, find, option_and_then, option_map, position, slice_get}
-use Rattle.std.specs.Prelude.{unwrap_or, false, ◌⊎◌, ◌∷◌, ◌<◌, ◌≤◌, length, is_some}
+use Rattle.std.specs.Prelude.{unwrap_or, false, ◌⊎◌, ◌∷◌, ◌<◌, ◌≤◌, ◌^◌, length, is_some}
 use Rattle.std.specs.List.{AllByRecursion}
 use Rattle.std.specs.Str.{bytes_eq}
+use Rattle.std.specs.Str.Parse.{IsNumeral, digits_value, without_leading_plus}
 use Rattle.clap.specs.Lexer.{usize_max}
 use Rattle.clap.specs.Simple.{label_of}
 use Rattle.clap.specs.Walk.{answers_to}
@@ -20,7 +21,7 @@ use Rattle.mm_base.specs.MostBytes.{most_bytes}
 use Rattle.mm_code.specs.Layout.{texts}
 use Rattle.mm_check.specs.declared.command.Command.{Command}
 use Rattle.mm_check.specs.declared.command.Command.TheVariants.{Whole, About, File, Find, Lone}
-use Rattle.mm_check.specs.declared.command.Command.TheVariants.{Statement}
+use Rattle.mm_check.specs.declared.command.Command.TheVariants.{Statement, Lemmas}
 use Rattle.mm_check.specs.declared.command.Command.TheVariants as commands
 use Rattle.mm_check.specs.declared.question.Question.{Question}
 use Rattle.mm_check.specs.declared.question.Question.TheVariants as question
@@ -70,7 +71,8 @@ flag_rule name = record (new_rule name) {
   action = Some SetTrue;
 }
 
--- an option with a word behind it, which may be given once: `--to AXIOM`
+-- an option with a word behind it, which may be given once: `--to AXIOM`, `--most N`,
+-- `--least BYTES`
 abbrev pub option_rule : Text → Rule
 option_rule name = record (new_rule name) {
   long = Some name;
@@ -200,6 +202,17 @@ minimize_line =
     (flag_rule (codes "duplicates")))
     files_rule
 
+-- `lemmas --list [--most N] [--least BYTES] FILES..`
+abbrev pub lemmas_line : App
+lemmas_line =
+    with_rule
+    (with_rule
+    (with_rule
+    (with_rule (new_app (codes "lemmas")) (flag_rule (codes "list")))
+    (option_rule (codes "most")))
+    (option_rule (codes "least")))
+    files_rule
+
 -- a question about a proof's text and the theorem with a label: the command's name, and then
 -- `LABEL PROOF FILES..`
 abbrev pub text_line : Text → App
@@ -257,9 +270,9 @@ forms_line =
     with_subcommand
     (with_subcommand (with_subcommand database_line normal_line.top) packed_line.top) small_line.top
 
--- and the one that asks for shorter proofs
+-- and those that ask for shorter proofs, and for lemmas
 abbrev pub shorter_line : App
-shorter_line = with_subcommand forms_line minimize_line.top
+shorter_line = with_subcommand (with_subcommand forms_line minimize_line.top) lemmas_line.top
 
 -- and those that ask about a proof's text
 abbrev pub proofs_line : App
@@ -273,7 +286,7 @@ proofs_line = with_subcommand (with_subcommand shorter_line same_line.top) try_l
 -- `mm normal [--file] LABEL FILES..`, `mm packed [--file] LABEL FILES..`,
 -- `mm small [--file] LABEL FILES..`, all three with `--all NAME FILES..` too,
 -- `mm minimize LABEL FILES..`, `mm minimize --all [--duplicates] NAME FILES..`,
--- `mm minimize --list FILES..`,
+-- `mm minimize --list FILES..`, `mm lemmas --list [--most N] [--least BYTES] FILES..`,
 -- `mm same LABEL PROOF FILES..`, `mm try LABEL PROOF FILES..`, `mm explain [CODE..]`,
 -- `mm help [COMMAND]`, `mm version`, `mm --version`, and everywhere `--help`
 abbrev pub command_line : App
@@ -532,6 +545,44 @@ AsksMinimizeAmiss words =
     × (¬ (DoAgree all list duplicates)
     ⊎ (((list ≡ false) × (length behind < 2)) ⊎ ((all ≡ true) × NamesNoFile behind)))
 
+-- The word says this number, in decimal digits, which may follow a plus: from 1 on, below 2 ^ 32.
+abbrev pub SaysNumber : (word : Text) → ℕ → Type 0
+SaysNumber word n =
+    let digits : Text = without_leading_plus word in
+    IsNumeral 10 digits × (n ≡ digits_value 10 digits) × (0 < n) × (n < 2 ^ 32)
+
+-- It says none.
+abbrev pub SaysNoNumber : (word : Text) → Type 0
+SaysNoNumber word = (n : ℕ) → ¬ SaysNumber word n
+
+-- This number is asked for by the word behind an option, or where that isn't given it is the usual
+-- one.
+abbrev pub IsNumberBehind : (given : Option Text) → (usual : ℕ) → ℕ → Type 0
+IsNumberBehind None usual n = n ≡ usual
+IsNumberBehind (Some word) usual n = SaysNumber word n
+
+-- The word behind an option, which is given, says no number.
+abbrev pub IsNoNumberBehind : (given : Option Text) → Type 0
+IsNoNumberBehind None = ⊥
+IsNoNumberBehind (Some word) = SaysNoNumber word
+
+-- They ask by `lemmas --list` for the lemmas that the files with these names lack: so many at most,
+-- 100 where nothing is said, each of which saves so many bytes or more, 1 where nothing is said.
+abbrev pub AsksLemmas : List Text → (most least : ℕ) → List Text → Type 0
+AsksLemmas words most least names =
+    (rows : List Row) × Commands words (codes "lemmas") rows × IsGiven (codes "list") rows true
+    × IsNumberBehind (first_of (codes "most") rows) 100 most
+    × IsNumberBehind (first_of (codes "least") rows) 1 least
+    × (unwrap_or (all_of (codes "FILES") rows) [] ≡ names)
+
+-- They ask by `lemmas` amiss: without `--list`, or for a number that none is.
+abbrev pub AsksLemmasAmiss : List Text → Type 0
+AsksLemmasAmiss words =
+    (rows : List Row) × Commands words (codes "lemmas") rows
+    × (IsGiven (codes "list") rows false
+    ⊎ (IsNoNumberBehind (first_of (codes "most") rows)
+    ⊎ IsNoNumberBehind (first_of (codes "least") rows)))
+
 -- the command that asks this about a proof's text and a theorem
 abbrev pub name_of_text : TextQuestion → Text
 name_of_text of_text.Same = codes "same"
@@ -594,6 +645,7 @@ AsksRun words (Statement label) names =
 AsksRun words (File form number) names = AsksAll words form number names
 AsksRun words (commands.Shorter number duplicates) names =
     AsksShorterFile words number duplicates names
+AsksRun words (Lemmas most least) names = AsksLemmas words most least names
 AsksRun words (Find patterns whole hypotheses) names =
     (AsksFind words (texts patterns.now) whole hypotheses names × AreShort (texts patterns.now))
     ⊎ ((texts patterns.now ≡ []) × AsksStatement words true names)
@@ -618,14 +670,15 @@ IsFaulty words =
     (kind : ErrorKind) × IsAmong kind (fault_of command_line words) × (kind ≢ DisplayHelp)
     × (kind ≢ DisplayVersion)
 
--- They name no command that asks for a proof in another form or for a shorter one, or about a
--- proof's text.
+-- They name no command that asks for a proof in another form or for a shorter one, about a proof's
+-- text, or for lemmas.
 abbrev pub NamesNoForm : List Text → Type 0
 NamesNoForm words =
     (rows : List Row)
     → ¬ Commands words (codes "normal") rows × ¬ Commands words (codes "packed") rows
     × ¬ Commands words (codes "small") rows × ¬ Commands words (codes "minimize") rows
     × ¬ Commands words (codes "same") rows × ¬ Commands words (codes "try") rows
+    × ¬ Commands words (codes "lemmas") rows
 
 -- They name no command that asks for a text of the program itself.
 abbrev pub NamesNoText : List Text → Type 0
@@ -653,7 +706,7 @@ AreRefusedWords words =
     ⊎ (AsksAxiomsAmiss words
     ⊎ (AsksShowAmiss words
     ⊎ (AsksMinimizeAmiss words
-    ⊎ (AsksStatementAmiss words ⊎ AsksFindAmiss words))))))
+    ⊎ (AsksStatementAmiss words ⊎ (AsksFindAmiss words ⊎ AsksLemmasAmiss words)))))))
 
 -- why there is no request
 abbrev pub IsWordFault : List Text → Stop → Type 0
@@ -679,6 +732,12 @@ abbrev pub IsNamingFault : (words : List Text) → Stop → Type 0
 IsNamingFault words (stop.Usage text) = NamesNoFile words
 IsNamingFault words stop.Memory = Unit {0}
 IsNamingFault words other = ⊥
+
+-- why the word behind an option is no number
+abbrev pub IsNumberFault : (given : Option Text) → Stop → Type 0
+IsNumberFault given (stop.Usage text) = IsNoNumberBehind given
+IsNumberFault given stop.Memory = Unit {0}
+IsNumberFault given other = ⊥
 
 -- a request that stands in place of matches is one for help, on this topic, or for the version,
 -- which clap's answer says by its kind

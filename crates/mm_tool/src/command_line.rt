@@ -11,7 +11,7 @@ ghost use Rattle.mm_tool.specs.Words.{option_rule, options_rule, packed_line, pa
 ghost use Rattle.mm_tool.specs.Words.{profile_line, proof_rule, proofs_line, question_line};
 ghost use Rattle.mm_tool.specs.Words.{rests_line, same_line, shorter_line, show_line, small_line};
 ghost use Rattle.mm_tool.specs.Words.{statement_line, text_line, topic_rule, try_line, users_line};
-ghost use Rattle.mm_tool.specs.Words.{version_line, why_line};
+ghost use Rattle.mm_tool.specs.Words.{lemmas_line, version_line, why_line};
 
 use clap::{Arg, ArgAction, Command};
 use std::alloc::{AllocError, Global};
@@ -42,6 +42,8 @@ pub(crate) const SMALL: &str = "small";
 
 pub(crate) const MINIMIZE: &str = "minimize";
 
+pub(crate) const LEMMAS: &str = "lemmas";
+
 pub(crate) const SAME: &str = "same";
 
 pub(crate) const TRY: &str = "try";
@@ -65,6 +67,10 @@ pub(crate) const ALL: &str = "all";
 pub(crate) const LIST: &str = "list";
 
 pub(crate) const DUPLICATES: &str = "duplicates";
+
+pub(crate) const MOST: &str = "most";
+
+pub(crate) const LEAST: &str = "least";
 
 pub(crate) const KNOWN: &str = "known";
 
@@ -414,6 +420,23 @@ fn minimize_command<'a>(alloc: Global) -> Result<Command<'a>, AllocError>
     with_argument(command, files_argument(alloc))
 }
 
+/// How `lemmas` is used.
+pub(crate) const LEMMAS_USE: &str = "mm lemmas --list [--most N] [--least BYTES] FILES..";
+
+/// The command `lemmas`, for `clap`.
+fn lemmas_command<'a>(alloc: Global) -> Result<Command<'a>, AllocError>
+    ensures shape { IfOk result (λ command. app_of command ≡ lemmas_line) }
+    ensures local { IfOk result (λ command. (out-Command command).has_globals ≡ false) }
+{
+    let command = Command::new(alloc, LEMMAS)
+        .about("lists the lemmas that a library lacks, by which its proofs would be smaller")
+        .override_usage(LEMMAS_USE);
+    let command = with_argument(Ok(command), flag_argument(alloc, LIST));
+    let command = with_argument(command, option_argument(alloc, MOST));
+    let command = with_argument(command, option_argument(alloc, LEAST));
+    with_argument(command, files_argument(alloc))
+}
+
 /// A command that asks about a proof's text and the theorem with a label, for `clap`.
 fn text_command<'a>(
     alloc: Global,
@@ -558,13 +581,14 @@ fn forms_command<'a>(alloc: Global) -> Result<Command<'a>, AllocError>
     with_command(command, small_command(alloc))
 }
 
-/// That with the command that asks for shorter proofs, for `clap`.
+/// That with the commands that ask for shorter proofs, and for lemmas, for `clap`.
 fn shorter_command<'a>(alloc: Global) -> Result<Command<'a>, AllocError>
     ensures shape { IfOk result (λ command. app_of command ≡ shorter_line) }
     ensures local { IfOk result (λ command. (out-Command command).has_globals ≡ false) }
 {
     let command = forms_command(alloc);
-    with_command(command, minimize_command(alloc))
+    let command = with_command(command, minimize_command(alloc));
+    with_command(command, lemmas_command(alloc))
 }
 
 /// That with the commands that ask about a proof's text, for `clap`.

@@ -390,6 +390,40 @@ Examples:
   mm minimize --all set.mm set.mm
 ";
 
+const LEMMAS: &str = "Usage: mm lemmas --list [--most N] [--least BYTES] FILES..
+
+Checks the database, and lists lemmas that the library lacks: theorems of two
+steps, of which one proves a hypothesis of the other, that would stand in place
+of both and so save bytes. They come as a search finds them, about the best one
+first; what each saves is told without its own text, and after those before it.
+That they follow isn't judged: they are to choose from.
+Standard error says if the search was broken off, and on a terminal how far it
+has come. Marks and mathboxes are heeded as by `mm minimize`.
+
+Options, whose numbers are decimal, from 1 to 4294967295:
+  --list          what is told: there is nothing else yet, and it must be given
+  --most N        so many lemmas at most; 100 where it isn't given
+  --least BYTES   those alone that save so many bytes or more; 1 where it isn't
+                  given
+
+Replies, one on each line:
+  SAVED USES PROOFS UPPER PLACE LOWER : HYPOTHESIS & .. => EXPRESSION
+      The bytes that the lemma saves; the steps that would be by it, and in how
+      many proofs; the two assertions of which it is made, where LOWER proves
+      the `$e` of UPPER with the number PLACE, from 1 on; and what it says. They
+      are labels, or #N, the lemma on line N. ` is NAME` before the colon: NAME
+      says it already, but further down or in another mathbox.
+  N lemmas SAVED USES                                               status 0, 3
+      The last line: how many there are, and their sums. Status 3 where a proof
+      of the database holds a `?`.
+  no, limit or load                                                 status 1, 4
+      The database is refused: `mm help check`.
+
+Examples:
+  mm lemmas --list set.mm
+  mm lemmas --list --most 10 --least 1000 set.mm
+";
+
 const SAME: &str = "Usage: mm same LABEL PROOF FILES..
 
 Checks the database, and tells whether the text in the file PROOF is the same
@@ -559,6 +593,12 @@ fn minimize_page() -> &'static str
     MINIMIZE
 }
 
+fn lemmas_page() -> &'static str
+    ensures { IsTrue (is_page_of (codes "lemmas") result.now) }
+{
+    LEMMAS
+}
+
 fn same_page() -> &'static str
     ensures { IsTrue (is_page_of (codes "same") result.now) }
 {
@@ -590,7 +630,7 @@ fn version_page() -> &'static str
 }
 
 /// A page for each command, in the order of the command line.
-pub(crate) fn program_pages() -> [Page<'static>; 17]
+pub(crate) fn program_pages() -> [Page<'static>; 18]
     ensures commands { map (λ page. page.command.now) result ≡ command_names }
     ensures usage { AllByRecursion (λ page. IsTrue (is_page_of page.command.now page.text.now))
         result }
@@ -643,6 +683,10 @@ pub(crate) fn program_pages() -> [Page<'static>; 17]
         Page {
             command: "minimize",
             text: minimize_page(),
+        },
+        Page {
+            command: "lemmas",
+            text: lemmas_page(),
         },
         Page {
             command: "same",

@@ -30,17 +30,17 @@ pub(crate) struct ProgressLine<P> {
     is_shown: bool,
     /// Whether the line stands there, and nothing behind it.
     stands: bool,
-    /// What a search for shorter proofs came to.
+    /// What a search came to.
     searched: Option<Searched>,
 }
 
-/// What a search for shorter proofs came to, where no line is shown.
+/// What a search came to, where no line is shown.
 #[derive(Clone, Copy)]
 struct Unshown {
     searched: Option<Searched>,
 }
 
-/// A reply, and what a search for shorter proofs came to on the way to it, where there was one.
+/// A reply, and what a search came to on the way to it, where there was one.
 #[derive(Drop)]
 pub(crate) struct Watched {
     pub(crate) reply: Reply,

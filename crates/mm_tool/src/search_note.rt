@@ -1,4 +1,4 @@
-//! The line on what a search for shorter proofs came to, and all notes beside a reply.
+//! The line on what a search came to, and all notes beside a reply.
 
 ghost use Rattle.std.specs.Prelude.{◌≡◌, ◌++◌, map, IfOk, OnOk};
 ghost use Rattle.mm_text.specs.Files.{plain_file};
@@ -67,6 +67,9 @@ fn push_searched(notes: &mut Vec<u8>, searched: Searched) -> Result<(), AllocErr
             push_change(notes, b", ", own.steps, b" steps -> ", new.steps)?;
             notes.extend_from_slice(b"\n")
         }
+        Searched::BrokenOff => notes.extend_from_slice(
+            b"mm: note: the search was broken off, as it took too long\n",
+        ),
     }
 }
 
@@ -91,7 +94,8 @@ fn push_search_line(
             question: Question::Minimized,
             ..
         }
-        | Command::Shorter { .. } => push_searched(notes, searched),
+        | Command::Shorter { .. }
+        | Command::Lemmas { .. } => push_searched(notes, searched),
         _ => Ok(()),
     }
 }

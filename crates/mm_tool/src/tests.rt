@@ -301,6 +301,46 @@ fn takes_flags_of_minimize_that_agree(rt: HostRuntime) {
 }
 
 #[test]
+fn asks_for_lemmas_by_its_words(rt: HostRuntime) {
+    let listed = |most, least| Command::Lemmas { most, least };
+    for (words, wanted) in [
+        (
+            ["mm", "lemmas", "--list", "first.mm"].as_slice(),
+            listed(100, 1),
+        ),
+        (
+            ["mm", "lemmas", "--most", "7", "first.mm", "--list"].as_slice(),
+            listed(7, 1),
+        ),
+        (
+            [
+                "mm",
+                "lemmas",
+                "--list",
+                "--least",
+                "4294967295",
+                "first.mm",
+            ]
+            .as_slice(),
+            listed(100, 4_294_967_295),
+        ),
+    ] {
+        assert!(rt; asks_to_run(rt.alloc(), words, wanted), "at {words:?}");
+    }
+}
+
+#[test]
+fn takes_numbers_of_lemmas(rt: HostRuntime) {
+    for (option, number) in [("--most", "0"), ("--least", "x"), ("--least", "4294967296")] {
+        let words = ["mm", "lemmas", "--list", option, number, "first.mm"];
+        let (status, out, err) = outcome_of(rt.alloc(), &words);
+        assert_eq!(rt; status, 2);
+        assert!(rt; out.is_empty());
+        assert!(rt; err.starts_with(b"error: invalid value '"));
+    }
+}
+
+#[test]
 fn shortens_one_of_the_files(rt: HostRuntime) {
     let words = ["mm", "minimize", "--all", "none.mm", "first.mm"];
     let (status, out, err) = outcome_of(rt.alloc(), &words);

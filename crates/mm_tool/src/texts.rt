@@ -85,6 +85,10 @@ Commands:
                          the new proof uses one assertion alone
   minimize --list FILES..
                          checks the database, and lists the proofs that become shorter so
+  lemmas --list [--most N] [--least BYTES] FILES..
+                         checks the database, and lists lemmas that the library lacks, by which its
+                         proofs would have fewer bytes; with --most so many at most, with --least
+                         those alone that save so many bytes
   same LABEL PROOF FILES..
                          checks the database, and tells whether the text in the file PROOF is the
                          same proof as that of the theorem with this label
@@ -195,6 +199,13 @@ Replies of minimize, on standard output:
   assertion alone. At the end N proofs BYTES NEW-BYTES STEPS NEW-STEPS, their sums. Status 0, or 3
   where a proof of the database holds a `?`.
 
+Replies of lemmas, on standard output:
+  SAVED USES PROOFS UPPER PLACE LOWER : HYPOTHESIS & .. => EXPRESSION, one on each line
+      A lemma: the bytes that it saves, the steps and proofs that would use it, and what it is made
+      of, a step by LOWER for the hypothesis of UPPER with that number: each a label, or #N for the
+      lemma on line N. ` is NAME` stands before the colon where that says it already. At the end
+      N lemmas SAVED USES, their sums. Status 0, or 3 where a proof of the database holds a `?`.
+
 Replies of same, on standard output:
   same, or different
       Both proofs make the same tree, or two. Status 0, or 1.
@@ -229,7 +240,7 @@ Statuses:
 Where there is no reply, standard error says why: which word is not understood, or which file cannot
 be read. Where a word may stand in the wrong place, it says what that word was taken for. After the
 reply of minimize it says by how much a proof became shorter, or how many theorems were left as they
-are, as their proofs are too long to search.
+are, as their proofs are too long to search; after that of lemmas, if the search was broken off.
 
 Examples:
   mm check set.mm
@@ -246,6 +257,7 @@ Examples:
   mm small --all set.mm set.mm
   mm minimize id set.mm
   mm minimize --list set.mm
+  mm lemmas --list set.mm
   mm same id proof.txt set.mm
   mm try id proof.txt set.mm
   mm explain P8

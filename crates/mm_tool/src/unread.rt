@@ -27,6 +27,7 @@ pub(crate) fn asked_label<'a>(command: &Command<'a>) -> Option<&'a [u8]>
         Command::Whole { .. }
         | Command::File { .. }
         | Command::Shorter { .. }
+        | Command::Lemmas { .. }
         | Command::Find { .. } => None,
         Command::About { label, .. } | Command::Lone { label, .. } => Some(*label),
         Command::Statement(label) => Some(*label),

@@ -2,6 +2,7 @@
 
 ghost use Rattle.std.specs.Prelude.{◌≡◌, ◌≢◌, ◌↔◌, ◌∷◌, [], List, map, IfOk, IfErr, IfSome, IfNone};
 ghost use Rattle.std.specs.Prelude.{IsTrue, false, true, is_some, ℕ, codes, option_map, position, unwrap_or};
+ghost use Rattle.std.specs.Prelude.{MatchOption};
 ghost use Rattle.std.specs.Str.{bytes_eq};
 ghost use Rattle.clap.specs.Words.{Text, all_of, app_of, first_of, found_of, kind_of, rows_of};
 ghost use Rattle.mm_check.specs.declared.command.Command.TheVariants.{File, Whole};
@@ -14,15 +15,16 @@ ghost use Rattle.mm_tool.specs.Words.{IsAllFault, IsFaultOfKind, IsGiven, IsOfKi
 ghost use Rattle.mm_tool.specs.Words.{IsNamingFault, NamesFile, NamesNoForm, NamesNoText};
 ghost use Rattle.mm_tool.specs.Words.{command_line, first_command, is_strict, name_of_form};
 ghost use Rattle.mm_tool.specs.Words.{name_of_text, number_among};
+ghost use Rattle.mm_tool.specs.Words.{IsNumberBehind, IsNumberFault, SaysNoNumber, SaysNumber};
 ghost use Rattle.mm_step.specs.declared.profile.Profile.{Profile};
 ghost use Rattle.mm_step.specs.declared.profile.Profile.TheVariants.{Lenient};
 ghost use Rattle.mm_tool.specs.declared.words.Request.TheVariants.{Run};
 
 use crate::command_line::{
     ALL, AND, AXIOMS, AXIOMS_USE, CHECK, CODE, COMMAND, DUPLICATES, ESSENTIAL, EXPLAIN, FAULTS,
-    FILE, FILES, FIND, FIND_USE, HELP, HYPOTHESES, KNOWN, LABEL, LIST, MINIMIZE, MINIMIZE_USE,
-    NORMAL, PACKED, PATTERN, PROOF, SAME, SHOW, SMALL, STATEMENT, STATEMENT_USE, STRICT, TO, TRY,
-    USERS, USES, VERSION, WHOLE, WHY, whole_command,
+    FILE, FILES, FIND, FIND_USE, HELP, HYPOTHESES, KNOWN, LABEL, LEAST, LEMMAS, LEMMAS_USE, LIST,
+    MINIMIZE, MINIMIZE_USE, MOST, NORMAL, PACKED, PATTERN, PROOF, SAME, SHOW, SMALL, STATEMENT,
+    STATEMENT_USE, STRICT, TO, TRY, USERS, USES, VERSION, WHOLE, WHY, whole_command,
 };
 use crate::stop::Stop;
 use clap::error::ErrorKind;
@@ -40,6 +42,9 @@ Usage: mm show [--known | --essential | --uses] LABEL FILES..
 
 /// What `clap` finds for a flag that is given.
 const GIVEN: &str = "true";
+
+/// What is said of a word that says no number.
+const NO_NUMBER: &str = "it is no number from 1 to 4294967295";
 
 /// How `clap` begins the advice to pass an unknown option as a value.
 const ADVICE: &str = "\n\n  tip: to pass '";
@@ -293,11 +298,11 @@ fn whole_request<'a>(
     })
 }
 
-/// What is said where no file's name follows the label, as `clap` says it of a missing argument.
-fn lack_of_files(alloc: Global, usage: &str) -> Result<String, AllocError> {
+/// What is said where this argument isn't given, as `clap` says it.
+fn lack_of(alloc: Global, argument: &str, usage: &str) -> Result<String, AllocError> {
     format!(in alloc;
         "error: the following required arguments were not provided:
-  <FILES>...
+  {argument}
 
 Usage: {usage}
 
@@ -320,7 +325,7 @@ fn label_and_names<'a>(
 {
     match words {
         [label, names @ ..] if !names.is_empty() => Ok((*label, names.to_vec(alloc)?)),
-        _ => Err(Stop::Usage(lack_of_files(alloc, usage)?)),
+        _ => Err(Stop::Usage(lack_of(alloc, "<FILES>...", usage)?)),
     }
 }
 
@@ -588,6 +593,76 @@ fn minimize_request<'a>(alloc: Global, matches: &ArgMatches<'a>) -> Result<Reque
     Ok(Request::Run { command, names })
 }
 
+/// How many lemmas are told at most, where nothing is said.
+const MOST_LEMMAS: usize = 100;
+
+/// How many bytes each of them saves at least, where nothing is said.
+const LEAST_BYTES: usize = 1;
+
+/// What is said of a word behind an option that says no number, as `clap` says it of a bad value.
+fn no_number(alloc: Global, option: &str, word: &str) -> Result<String, AllocError> {
+    format!(in alloc;
+        "error: invalid value '{word}' for '--{option} <{option}>': {NO_NUMBER}
+
+For more information, try '--help'.
+"
+    )
+}
+
+/// The number that a word says: from 1 on, and below 2 ^ 32.
+fn number_said(word: &str) -> Option<usize>
+    ensures { MatchOption result (SaysNoNumber word.now) (SaysNumber word.now) }
+{
+    let Ok(number) = word.parse::<u32>() else {
+        return None;
+    };
+    if number == 0 {
+        return None;
+    }
+    Some(number as usize)
+}
+
+/// The number that the word behind an option says, in the matches of its command; this one, where
+/// the option isn't given.
+fn number_behind<'a>(
+    alloc: Global,
+    matches: &ArgMatches,
+    option: &str,
+    usual: usize,
+) -> Result<usize, Stop<'a>>
+    ensures number { IfOk result
+        (IsNumberBehind (first_of option.now (rows_of (found_of matches.now))) usual) }
+    ensures fault { IfErr result
+        (IsNumberFault (first_of option.now (rows_of (found_of matches.now)))) }
+{
+    let Some(word) = optional_word(matches, option) else {
+        return Ok(usual);
+    };
+    match number_said(word) {
+        Some(number) => Ok(number),
+        None => Err(Stop::Usage(no_number(alloc, option, word)?)),
+    }
+}
+
+/// What the matches of the command `lemmas` ask for.
+fn lemmas_request<'a>(alloc: Global, matches: &ArgMatches<'a>) -> Result<Request<'a>, Stop<'a>>
+    ensures request { IfOk result (λ request. (words : List Text)
+        → Commands words (codes "lemmas") (rows_of (found_of matches.now))
+        → Asks words request) }
+    ensures fault { IfErr result (λ stop. (words : List Text)
+        → Commands words (codes "lemmas") (rows_of (found_of matches.now))
+        → IsWordFault words stop) }
+{
+    let names = values_of(alloc, matches, FILES)?;
+    if !is_given(matches, LIST) {
+        return Err(Stop::Usage(lack_of(alloc, "--list", LEMMAS_USE)?));
+    }
+    let most = number_behind(alloc, matches, MOST, MOST_LEMMAS)?;
+    let least = number_behind(alloc, matches, LEAST, LEAST_BYTES)?;
+    let command = mm_check::Command::Lemmas { most, least };
+    Ok(Request::Run { command, names })
+}
+
 /// What the matches of the command `users` ask for.
 fn users_request<'a>(alloc: Global, matches: &ArgMatches<'a>) -> Result<Request<'a>, AllocError>
     ensures { IfOk result (λ request. (words : List Text)
@@ -714,8 +789,8 @@ fn proof_request<'a>(
     Ok(Request::Run { command, names })
 }
 
-/// What these matches of the words ask for by the commands `normal`, `packed`, `small`, `same` and
-/// `try`; nothing where they name none of these.
+/// What these matches of the words ask for by the commands `normal`, `packed`, `small`, `minimize`,
+/// `same`, `try` and `lemmas`; nothing where they name none of these.
 fn form_request<'a>(
     alloc: Global,
     matches: &ArgMatches<'a>,
@@ -744,6 +819,9 @@ fn form_request<'a>(
     }
     if let Some(tried) = matches.subcommand_matches(TRY) {
         return Ok(Some(asked_text(alloc, tried, TextQuestion::Try)?));
+    }
+    if let Some(lemmas) = matches.subcommand_matches(LEMMAS) {
+        return Ok(Some(lemmas_request(alloc, lemmas)?));
     }
     Ok(None)
 }

@@ -14,6 +14,7 @@ mod mm_explain;
 mod mm_axioms;
 mod mm_find;
 mod mm_save;
+mod mm_lemmas;
 mod mm_minimize;
 mod mm_check;
 mod mm_code;

@@ -8,6 +8,10 @@ impl<T: Ord> BinaryHeap<T> {
         BinaryHeap(std::collections::BinaryHeap::new())
     }
 
+    pub fn len(&self) -> usize {
+        self.0.len()
+    }
+
     pub fn push(&mut self, value: T) -> Result<(), AllocFailed<T>> {
         if self.0.len() == self.0.capacity() && self.0.try_reserve(1).is_err() {
             return Err(AllocFailed { value });

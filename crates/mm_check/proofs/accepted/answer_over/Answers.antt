@@ -11,6 +11,7 @@ use Rattle.mm_rules.specs.Places.{name_of}
 use Rattle.mm_verdict.specs.Reply.{text_of}
 use Rattle.mm_verdict.proofs.ReplyTexts.{made_both}
 use Rattle.mm_check.specs.Reply.{ListsAxioms, ListsShorter}
+use Rattle.mm_lemmas.specs.Told.{ListsLemmas}
 use Rattle.mm_check.proofs.AnswersTold.{list_told, text_told}
 use Rattle.mm_check.proofs.accepted.answer_over.Goals as goal
 
@@ -47,6 +48,15 @@ returns-in-Shorter g c =
     rw c.in-Shorter.is
     (list_told kept (λ statements text. ListsShorter kept.profile kept.files statements text) _ _
     c.shorter_text.ensures c.list_reply-in-Shorter.ensures)
+
+pub returns-in-Lemmas : goal.returns-in-Lemmas
+returns-in-Lemmas g c =
+    let kept : Conclusion = c.args.checked.now in
+    let most : ℕ = c.in-Lemmas.selection.most in
+    let least : ℕ = c.in-Lemmas.selection.least in
+    rw c.in-Lemmas.is
+    (list_told kept (λ statements text. ListsLemmas most least statements text) _ _
+    c.lemmas_text.ensures c.list_reply-in-Lemmas.ensures)
 
 pub returns-in-About : goal.returns-in-About
 returns-in-About g c =

@@ -16,5 +16,8 @@ returns-in-File g c = rw c.in-File.is c.all_saved_reply.ensures
 pub returns-in-Shorter : goal.returns-in-Shorter
 returns-in-Shorter g c = rw c.in-Shorter.is c.checked_reply-in-Shorter.ensures
 
+pub returns-in-Lemmas : goal.returns-in-Lemmas
+returns-in-Lemmas g c = rw c.in-Lemmas.is c.lemmas_reply.ensures
+
 pub returns-in-Find : goal.returns-in-Find
 returns-in-Find g c = rw c.in-Find.is c.find_reply.ensures

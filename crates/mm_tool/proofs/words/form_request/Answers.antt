@@ -61,6 +61,23 @@ returns-in-Some-subcommand_matches-5-clause-request c = λ words met.
     (c.in-Some-subcommand_matches-5.ensures.found.0 refl)
     c.in-Some-subcommand_matches-5.ensures.rows)
 
+pub returns-in_err-lemmas_request-clause-fault : goal.returns-in_err-lemmas_request-clause-fault
+returns-in_err-lemmas_request-clause-fault c =
+    error_keeps c.from_residual-in_err-lemmas_request.result c.in_err-lemmas_request.field-0.0
+    (λ stop. (words : List Text) → AreMatchesOf words c.args.matches.now → IsWordFault words stop)
+    c.from_residual-in_err-lemmas_request.ensures.1
+    (λ words met. c.in_err-lemmas_request.ensures.fault words
+    (commands_met words c.args.matches.now _ _ met
+    (c.in-Some-subcommand_matches-6.ensures.found.0 refl)
+    c.in-Some-subcommand_matches-6.ensures.rows))
+
+pub returns-in-Some-subcommand_matches-6-clause-request :
+    goal.returns-in-Some-subcommand_matches-6-clause-request
+returns-in-Some-subcommand_matches-6-clause-request c = λ words met.
+    c.in_ok-lemmas_request.ensures.request words (commands_met words c.args.matches.now _ _ met
+    (c.in-Some-subcommand_matches-6.ensures.found.0 refl)
+    c.in-Some-subcommand_matches-6.ensures.rows)
+
 pub returns-clause-none : goal.returns-clause-none
 returns-clause-none c = λ words met rows.
     let other = not_commanded words c.args.matches.now in (
@@ -76,4 +93,6 @@ returns-clause-none c = λ words met rows.
           c.in_default-subcommand_matches-4.is (c.subcommand_matches-5.ensures.found.1 named)),
       other _ rows met (λ named. none_there c.subcommand_matches-6.result
           c.in_default-subcommand_matches-5.is (c.subcommand_matches-6.ensures.found.1 named)),
+      other _ rows met (λ named. none_there c.subcommand_matches-7.result
+          c.in_default-subcommand_matches-6.is (c.subcommand_matches-7.ensures.found.1 named)),
     )
