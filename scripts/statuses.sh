@@ -382,7 +382,7 @@ for words in --help -h help '--help check' '-h nonsense'; do
     prints help.txt $words
 done
 narrow help.txt 100
-commands='check faults why axioms users statement find show normal packed small minimize lemmas same try explain help version'
+commands='check faults why axioms users statement find show normal packed small minimize lemmas same try diff explain help version'
 for command in $commands; do
     constant=$(echo "$command" | tr a-z A-Z)
     literal pages.rt "$constant" >page.txt
@@ -657,6 +657,40 @@ ends 0 'yes 7 statements 1 proofs\n' \
     check first.mm open.mm twice.mm empty.mm rests.mm loose.mm tight.mm front.mm steps.mm \
     demo0.mm demo0c.mm shared.mm unfinished.mm terms.mm rules.mm
 ends 4 'load F2\n' '' check first.mm empty.mm empty.mm
+
+# What changed between two versions: each a file, or several with `--` between them.
+diff_use='mm diff OLD NEW\n       mm diff OLD.. -- NEW..'
+sed 's/t + r/r + t/; s/tze [$]a/tzero $a/; s/= tze tze tpl/= tzero/; s/( 0 + 0 )/0/' \
+    first.mm >second.mm
+none='differ 0 gone 0 added 0 changed\n'
+ends 0 "$none" '' diff first.mm saved.mm
+ends 0 "$none" '' diff first.mm ./first.mm
+ends 0 "$none" '' diff first.mm -- first.mm
+ends 0 "$none" '' diff empty.mm ./empty.mm
+ends 1 'G tze\nA tzero\nC tpl\nC th\ndiffer 1 gone 1 added 2 changed\n' '' diff first.mm second.mm
+ends 1 'G tzero\nA tze\nC tpl\nC th\ndiffer 1 gone 1 added 2 changed\n' '' diff second.mm first.mm
+ends 1 'A tze\nA tpl\nA th\ndiffer 0 gone 3 added 0 changed\n' '' diff empty.mm -- -first.mm
+ends 0 "$none" '' diff top.mm terms.mm rules.mm symbols.mm -- top.mm terms.mm rules.mm symbols.mm
+ends 0 "$none" "$(note twice.mm)$(note loose.mm tight.mm)" \
+    diff first.mm twice.mm -- saved.mm loose.mm tight.mm
+ends 1 'no twice.mm 2 - M2 0\n' '' diff twice.mm open.mm
+ends 1 'no twice.mm 2 - M2 0\n' '' diff first.mm twice.mm
+ends 3 'incomplete 1\nq\n' '' diff open.mm twice.mm
+ends 3 'incomplete 1\nq\n' "$(note empty.mm)" diff first.mm -- open.mm empty.mm
+ends 4 'load F2\n' '' diff first.mm -- first.mm first.mm
+ends 1 'no twice.mm 2 - M2 0\n' '' diff twice.mm -- first.mm first.mm
+ends 4 '' 'mm: cannot read none.mm\n' diff none.mm nothing.mm
+ends 4 '' 'mm: cannot read none.mm\n' diff twice.mm none.mm
+ends 4 '' 'mm: cannot read --help\n' diff first.mm -- --help
+ends 4 '' 'mm: cannot read --\n' diff first.mm -- --
+for words in first.mm 'first.mm --' '-- first.mm first.mm' 'first.mm first.mm first.mm' \
+    'first.mm first.mm --' '-- first.mm --'; do
+    ends 2 '' "mm: diff takes two files, or files on both sides of --\nUsage: $diff_use\n" diff $words
+done
+mistaken --strict "$diff_use" diff --strict first.mm -- first.mm
+misused diff
+misused diff --
+misused diff first.mm -first.mm
 
 # The file that is opened is the one that is named, beside another that could be taken for it: one of
 # the same last name in another folder, or one whose name lacks the blanks at both ends. And no word

@@ -12,7 +12,7 @@ use Rattle.mm_tool.specs.Ending.{BreaksOff, TakesWhole, TellsLine, AsksNamed, St
 use Rattle.mm_tool.specs.Ending.{IsProofRead, IsTextReplyOver, IsTextCommand, StopsText, Ends}
 use Rattle.mm_tool.specs.Ending.{EndsWithoutWords, AnswersWords, IsReplyOver, Stops, TellsNotes}
 use Rattle.mm_tool.specs.Ending.{error_line, stop_status, unread_stop, AddsLabel, IsHelp}
-use Rattle.mm_tool.specs.Ending.{IsHelpFault, label_of}
+use Rattle.mm_tool.specs.Ending.{IsHelpFault, StopsDiff, label_of}
 use Rattle.std.specs.List.{AllZip}
 use Rattle.mm_base.proofs.Lists.{zip_length}
 use Rattle.mm_check.specs.Reply.{AsksHanded}
@@ -29,6 +29,7 @@ use Rattle.mm_tool.specs.declared.stop.Stop.TheVariants.{CannotWrite, Memory, Us
 use Rattle.std.specs.Global.{Vec}
 use Rattle.mm_rules.specs.Status.{number_of}
 use Rattle.mm_tool.specs.Words.{Asks, AsksExplain, AsksHelp, AsksRun, AsksText, IsWordFault}
+use Rattle.mm_tool.specs.Words.{AsksDiff}
 use Rattle.mm_tool.specs.Explained.{IsExplanation, IsExplanationFault}
 use Rattle.mm_tool.specs.declared.words.Request.{Request}
 use Rattle.mm_tool.specs.declared.words.TextQuestion.{TextQuestion}
@@ -254,12 +255,25 @@ module _ {O : Type 0} (contents : O → Option (List ℕ)) (holds : List ℕ →
       → StopsText question contents holds may_fail asked_label proof names max ended old new
       → Stops contents holds may_fail texts max words told old new
   stops_text question word proof names label (CannotRead name before) told old new asked given adds h =
-      rw adds (inr (question, word, proof, names, asked, h.0, given), h.1)
+      rw adds (inr (inl (question, word, proof, names, asked, h.0, given)), h.1)
   stops_text question word proof names label CannotWrite told old new asked given adds
       (text, outcome, reply, broke) =
-      rw adds (text, outcome, inr (inr (inr (inr (question, word, proof, names, asked, reply)))), broke)
+      rw adds
+      (text, outcome, inr (inr (inr (inr (inl (question, word, proof, names, asked, reply))))), broke)
   stops_text question word proof names label Memory told old new asked given adds h = rw adds h
   stops_text question word proof names label ended told old new asked given adds h = absurd h
+
+  -- Where the question about two versions that they ask ended without a reply, the words have no
+  -- answer.
+  pub stops_versions : (before after : List (List ℕ)) (stop : Stop) (old new : Counted O)
+      → AsksDiff words before after → StopsDiff contents holds may_fail before after max stop old new
+      → Stops contents holds may_fail texts max words stop old new
+  stops_versions before after (CannotRead name told) old new asked (unread, none, same) =
+      (inr (inr (before, after, asked, unread, none)), same)
+  stops_versions before after CannotWrite old new asked (text, outcome, reply, broke) =
+      (text, outcome, inr (inr (inr (inr (inr (before, after, asked, reply))))), broke)
+  stops_versions before after Memory old new asked h = h
+  stops_versions before after stop old new asked h = absurd h
 
 -- A question about a text ends as the command over the files does, once the proof is read.
 pub text_replies : {O E : Type 0} (question : TextQuestion) (contents : O → Option (List ℕ)) (holds : List ℕ → KnownFile) (max : ℕ) (label proof : List ℕ) (names : List (List ℕ)) (command : Command)

@@ -496,14 +496,14 @@ pub unlisted_refused : (rows : List Row) (listed : Bool) → IsGiven (codes "lis
     → listed ≡ false → (words : List Text) → Commands words (codes "lemmas") rows
     → AreRefusedWords words
 unlisted_refused rows listed list not words commands =
-    inr (inr (inr (inr (inr (inr (inr (inr (rows, commands, inl (rw not at list)))))))))
+    inr (inr (inr (inr (inr (inr (inr (inr (inl (rows, commands, inl (rw not at list))))))))))
 
 -- So they are where the word behind `--most` says no number.
 pub most_refused : (rows : List Row) (stop : Stop)
     → IsNumberFault (first_of (codes "most") rows) stop → (words : List Text)
     → Commands words (codes "lemmas") rows → IsWordFault words stop
 most_refused rows (Usage text) none words commands =
-    inr (inr (inr (inr (inr (inr (inr (inr (rows, commands, inr (inl none)))))))))
+    inr (inr (inr (inr (inr (inr (inr (inr (inl (rows, commands, inr (inl none))))))))))
 most_refused rows Memory none words commands = tt
 most_refused rows other none words commands = absurd none
 
@@ -512,7 +512,7 @@ pub least_refused : (rows : List Row) (stop : Stop)
     → IsNumberFault (first_of (codes "least") rows) stop → (words : List Text)
     → Commands words (codes "lemmas") rows → IsWordFault words stop
 least_refused rows (Usage text) none words commands =
-    inr (inr (inr (inr (inr (inr (inr (inr (rows, commands, inr (inr none)))))))))
+    inr (inr (inr (inr (inr (inr (inr (inr (inl (rows, commands, inr (inr none))))))))))
 least_refused rows Memory none words commands = tt
 least_refused rows other none words commands = absurd none
 

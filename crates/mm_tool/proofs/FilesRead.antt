@@ -263,7 +263,7 @@ names_left_out_alike law files others alike small short names are = record {
 }
 
 -- The notes on files as they were read are those on the whole files.
-files_noted_over : AlikeFilesLeaveOutTheSame → (wholes reads : List PlainFile)
+pub files_noted_over : AlikeFilesLeaveOutTheSame → (wholes reads : List PlainFile)
     → AllZip (IsReadAs LeftOut) wholes reads → total_bytes wholes ≤ most_bytes → (notes : List ℕ)
     → AreNotesOn reads notes → AreNotesOn wholes notes
 files_noted_over law wholes reads all few notes (names, are, made) =

@@ -1,3 +1,4 @@
 pub mod AskedWords
 pub mod FilesRead
 pub mod AnsweredWords
+pub mod ComparedVersions

@@ -29,7 +29,8 @@ use Rattle.mm_tool.specs.Answer.{Outcome, quiet}
 use Rattle.mm_tool.specs.Explained.{IsExplanation, IsUnknownCode}
 use Rattle.mm_tool.specs.Notes.{AreNotesBeside, search_line}
 use Rattle.mm_tool.specs.Words.{AsksHelp, AsksVersion, AsksExplain, AsksRun, AsksText}
-use Rattle.mm_tool.specs.Words.{AreRefusedWords, AreShort}
+use Rattle.mm_tool.specs.Words.{AreRefusedWords, AreShort, AsksDiff}
+use Rattle.mm_tool.specs.Versions.{IsDiffReplyOver, IsVersionUnreadable}
 use Rattle.mm_tool.specs.declared.folder.ArgumentFault.{ArgumentFault}
 use Rattle.mm_tool.specs.declared.folder.ArgumentFault.TheVariants as argument
 use Rattle.mm_tool.specs.declared.pages.Page.{Page}
@@ -147,9 +148,11 @@ AnswersWords holds texts max words text outcome =
     × (outcome ≡ quiet 0))
     ⊎ (((command : Command) × (names : List Text) × AsksRun words command names
     × IsReplyOver holds command names max text outcome)
-    ⊎ ((question : TextQuestion) × (label proof : Text) × (names : List Text)
+    ⊎ (((question : TextQuestion) × (label proof : Text) × (names : List Text)
     × AsksText question words label proof names
-    × IsTextReplyOver question holds label proof names max text outcome))))
+    × IsTextReplyOver question holds label proof names max text outcome)
+    ⊎ ((old new : List Text) × AsksDiff words old new
+    × IsDiffReplyOver holds old new max text outcome)))))
 
 -- ---- ends without an answer
 
@@ -246,6 +249,19 @@ StopsText question contents holds may_fail label proof names max Memory old new 
     IsUntouched old new
 StopsText question contents holds may_fail label proof names max other old new = ⊥
 
+-- The question about two versions ended so, and that is what standard output shows of it.
+abbrev pub StopsDiff : {O : Type 0} → (O → Option (List ℕ)) → (List ℕ → KnownFile)
+    → (List ℕ → Type 0) → (before after : List Text) → ℕ
+    → Stop → Counted O → Counted O → Type 0
+StopsDiff contents holds may_fail before after max (CannotRead name told) old new =
+    IsVersionUnreadable holds may_fail before after max name.now × (told ≡ None)
+    × IsUntouched old new
+StopsDiff contents holds may_fail before after max CannotWrite old new =
+    (text : List ℕ) × (outcome : Outcome)
+    × IsDiffReplyOver holds before after max text outcome × BreaksOff contents text old new
+StopsDiff contents holds may_fail before after max Memory old new = IsUntouched old new
+StopsDiff contents holds may_fail before after max other old new = ⊥
+
 -- The words have no answer, and that is what standard output shows of it.
 abbrev pub Stops : {O : Type 0} → (O → Option (List ℕ)) → (List ℕ → KnownFile)
     → (List ℕ → Type 0) → Texts → ℕ → List Text
@@ -260,10 +276,12 @@ Stops contents holds may_fail texts max words (CannotRead name told) old new =
     (((command : Command) × (names : List Text) × AsksRun words command names
     × IsUnreadable holds may_fail names max name.now
     × (option_map (λ l. l.now) told ≡ label_of command))
-    ⊎ ((question : TextQuestion) × (label proof : Text) × (names : List Text)
+    ⊎ (((question : TextQuestion) × (label proof : Text) × (names : List Text)
     × AsksText question words label proof names
     × IsProofUnreadable holds may_fail proof names max name.now
-    × (option_map (λ l. l.now) told ≡ Some label)))
+    × (option_map (λ l. l.now) told ≡ Some label))
+    ⊎ ((before after : List Text) × AsksDiff words before after
+    × IsVersionUnreadable holds may_fail before after max name.now × (told ≡ None))))
     × IsUntouched old new
 Stops contents holds may_fail texts max words CannotWrite old new =
     (text : List ℕ) × (outcome : Outcome) × AnswersWords holds texts max words text outcome

@@ -4,6 +4,7 @@ pub mod Explained
 pub mod Folder
 pub mod Notes
 pub mod Words
+pub mod Versions
 pub mod ReadFiles
 pub mod Pages
 pub mod Progress

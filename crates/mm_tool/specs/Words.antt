@@ -3,6 +3,7 @@
 use Rattle.std.specs.Prelude.{◌≡◌, ◌≢◌, ◌↔◌, List, [], map, Some, Bool, true, IsTrue, codes}
 use Rattle.std.specs.Prelude.{ℕ, Option, None, find, option_and_then, option_map, position, slice_get}
 use Rattle.std.specs.Prelude.{unwrap_or, false, ◌⊎◌, ◌∷◌, ◌<◌, ◌≤◌, ◌^◌, length, is_some}
+use Rattle.std.specs.Prelude.{◌+◌, drop, take}
 use Rattle.std.specs.List.{AllByRecursion}
 use Rattle.std.specs.Str.{bytes_eq}
 use Rattle.std.specs.Str.Parse.{IsNumeral, digits_value, without_leading_plus}
@@ -226,6 +227,11 @@ same_line = text_line (codes "same")
 abbrev pub try_line : App
 try_line = text_line (codes "try")
 
+-- `diff OLD NEW`, `diff OLD.. -- NEW..`: what stands behind the command are names of files, at least
+-- one, among which `clap` leaves out the `--`
+abbrev pub diff_line : App
+diff_line = with_rule (new_app (codes "diff")) files_rule
+
 -- `explain [CODE..]`
 abbrev pub explain_line : App
 explain_line = with_rule (new_app (codes "explain")) code_rule
@@ -278,6 +284,10 @@ shorter_line = with_subcommand (with_subcommand forms_line minimize_line.top) le
 abbrev pub proofs_line : App
 proofs_line = with_subcommand (with_subcommand shorter_line same_line.top) try_line.top
 
+-- and the one that compares two versions of a database
+abbrev pub versions_line : App
+versions_line = with_subcommand proofs_line diff_line.top
+
 -- `mm check [--strict] FILES..`, `mm faults [--strict] FILES..`, `mm why [--strict] FILES..`,
 -- `mm axioms [--essential | --to AXIOM] LABEL FILES..`, `mm axioms --all FILES..`,
 -- `mm users [--all] LABEL FILES..`, `mm statement LABEL FILES..`, `mm statement --all FILES..`,
@@ -287,12 +297,13 @@ proofs_line = with_subcommand (with_subcommand shorter_line same_line.top) try_l
 -- `mm small [--file] LABEL FILES..`, all three with `--all NAME FILES..` too,
 -- `mm minimize LABEL FILES..`, `mm minimize --all [--duplicates] NAME FILES..`,
 -- `mm minimize --list FILES..`, `mm lemmas --list [--most N] [--least BYTES] FILES..`,
--- `mm same LABEL PROOF FILES..`, `mm try LABEL PROOF FILES..`, `mm explain [CODE..]`,
+-- `mm same LABEL PROOF FILES..`, `mm try LABEL PROOF FILES..`, `mm diff OLD NEW`,
+-- `mm diff OLD.. -- NEW..`, `mm explain [CODE..]`,
 -- `mm help [COMMAND]`, `mm version`, `mm --version`, and everywhere `--help`
 abbrev pub command_line : App
 command_line =
     with_subcommand
-    (with_subcommand (with_subcommand proofs_line explain_line.top) help_line.top) version_line.top
+    (with_subcommand (with_subcommand versions_line explain_line.top) help_line.top) version_line.top
 
 -- the names of the commands, in their order
 abbrev pub command_names : List Text
@@ -597,6 +608,28 @@ AsksText asked words label proof names =
     × (unwrap_or (first_of (codes "PROOF") rows) [] ≡ proof)
     × (unwrap_or (all_of (codes "FILES") rows) [] ≡ names)
 
+-- These are the names of files on both sides of the first `--` among the words, at least one on
+-- each; where no word is `--`, of two words the first and the second.
+abbrev pub AreSides : (words old new : List Text) → Type 0
+AreSides words old new =
+    (old ≢ []) × (new ≢ [])
+    × (((number : ℕ) × (number_among words (codes "--") ≡ Some number)
+    × (old ≡ take number words) × (new ≡ drop (number + 1) words))
+    ⊎ ((number_among words (codes "--") ≡ None) × (length words ≡ 2)
+    × (old ≡ take 1 words) × (new ≡ drop 1 words)))
+
+-- They ask by `diff` what changed from the files with the names `old` to those with the names `new`,
+-- which stand behind the program's name and the command.
+abbrev pub AsksDiff : List Text → (old new : List Text) → Type 0
+AsksDiff words old new =
+    (rows : List Row) × Commands words (codes "diff") rows × AreSides (drop 2 words) old new
+
+-- They ask so, and name no two sides.
+abbrev pub AsksDiffAmiss : List Text → Type 0
+AsksDiffAmiss words =
+    (rows : List Row) × Commands words (codes "diff") rows
+    × ((old new : List Text) → ¬ (AreSides (drop 2 words) old new))
+
 -- They ask this question about the whole database in the files with these names, under this profile.
 -- On which axioms each theorem rests, and which proofs become shorter, is asked under the lenient
 -- one, as questions about a theorem are.
@@ -663,6 +696,8 @@ Asks words (requests.Find asked) =
     AsksFind words (map (λ pattern. pattern.now) asked.patterns.items) asked.whole asked.hypotheses
     (map (λ name. name.now) asked.names.items)
     × AreShort (map (λ pattern. pattern.now) asked.patterns.items)
+Asks words (requests.Diff asked) =
+    AsksDiff words (map (λ name. name.now) asked.old.now) (map (λ name. name.now) asked.new.now)
 
 -- The words are refused, by a fault that is no wish for help or for the version.
 abbrev pub IsFaulty : List Text → Type 0
@@ -695,7 +730,7 @@ NamesNoCommand words = IsAccepted words × NamesNoForm words × NamesNoText word
     × ¬ Commands words (codes "why") rows
     × ¬ Commands words (codes "axioms") rows × ¬ Commands words (codes "users") rows
     × ¬ Commands words (codes "statement") rows × ¬ Commands words (codes "find") rows
-    × ¬ Commands words (codes "show") rows)
+    × ¬ Commands words (codes "show") rows × ¬ Commands words (codes "diff") rows)
 
 -- The words aren't understood.
 abbrev pub AreRefusedWords : List Text → Type 0
@@ -706,7 +741,8 @@ AreRefusedWords words =
     ⊎ (AsksAxiomsAmiss words
     ⊎ (AsksShowAmiss words
     ⊎ (AsksMinimizeAmiss words
-    ⊎ (AsksStatementAmiss words ⊎ (AsksFindAmiss words ⊎ AsksLemmasAmiss words)))))))
+    ⊎ (AsksStatementAmiss words
+    ⊎ (AsksFindAmiss words ⊎ (AsksLemmasAmiss words ⊎ AsksDiffAmiss words))))))))
 
 -- why there is no request
 abbrev pub IsWordFault : List Text → Stop → Type 0

@@ -5,6 +5,7 @@ ghost use Rattle.clap.specs.Words.{App, Rule, app_of, rule_of, with_rule, with_s
 ghost use Rattle.clap.specs.declared.builder.command.Command.TheViews.{out-Command};
 ghost use Rattle.mm_tool.specs.Words.{axioms_line, bare_line, check_line, check_lines, code_rule};
 ghost use Rattle.mm_tool.specs.Words.{command_line, database_line, explain_line, faults_line};
+ghost use Rattle.mm_tool.specs.Words.{diff_line, versions_line};
 ghost use Rattle.mm_tool.specs.Words.{files_rule, find_line, flag_rule, form_line, forms_line};
 ghost use Rattle.mm_tool.specs.Words.{help_line, label_rule, minimize_line, normal_line};
 ghost use Rattle.mm_tool.specs.Words.{option_rule, options_rule, packed_line, pattern_rule};
@@ -47,6 +48,8 @@ pub(crate) const LEMMAS: &str = "lemmas";
 pub(crate) const SAME: &str = "same";
 
 pub(crate) const TRY: &str = "try";
+
+pub(crate) const DIFF: &str = "diff";
 
 pub(crate) const EXPLAIN: &str = "explain";
 
@@ -479,6 +482,21 @@ fn try_command<'a>(alloc: Global) -> Result<Command<'a>, AllocError>
     )
 }
 
+/// How `diff` is used.
+pub(crate) const DIFF_USE: &str = "mm diff OLD NEW
+       mm diff OLD.. -- NEW..";
+
+/// The command `diff`, for `clap`, which takes the `--` between its files for the end of options.
+fn diff_command<'a>(alloc: Global) -> Result<Command<'a>, AllocError>
+    ensures shape { IfOk result (λ command. app_of command ≡ diff_line) }
+    ensures local { IfOk result (λ command. (out-Command command).has_globals ≡ false) }
+{
+    Command::new(alloc, DIFF)
+        .about("tells what changed between two versions of a database, by label")
+        .override_usage(DIFF_USE)
+        .arg(files_argument(alloc))
+}
+
 /// The command `explain`, for `clap`.
 fn explain_command<'a>(alloc: Global) -> Result<Command<'a>, AllocError>
     ensures shape { IfOk result (λ command. app_of command ≡ explain_line) }
@@ -601,11 +619,20 @@ fn proofs_command<'a>(alloc: Global) -> Result<Command<'a>, AllocError>
     with_command(command, try_command(alloc))
 }
 
+/// That with the command that compares two versions of a database, for `clap`.
+fn versions_command<'a>(alloc: Global) -> Result<Command<'a>, AllocError>
+    ensures shape { IfOk result (λ command. app_of command ≡ versions_line) }
+    ensures local { IfOk result (λ command. (out-Command command).has_globals ≡ false) }
+{
+    let command = proofs_command(alloc);
+    with_command(command, diff_command(alloc))
+}
+
 /// The program's command line, for `clap`.
 pub(crate) fn whole_command<'a>(alloc: Global) -> Result<Command<'a>, AllocError>
     ensures { IfOk result (λ command. app_of command ≡ command_line) }
 {
-    let command = proofs_command(alloc);
+    let command = versions_command(alloc);
     let command = with_command(command, explain_command(alloc));
     let command = with_command(command, help_command(alloc));
     with_command(command, Ok(version_command(alloc)))

@@ -20,6 +20,7 @@ mod serve;
 mod stop;
 mod texts;
 mod unread;
+mod versions;
 mod words;
 
 ghost use Rattle.std.specs.Int.{from_le_bytes, w64};

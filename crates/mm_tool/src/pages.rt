@@ -482,6 +482,31 @@ Example:
   mm try id proof.txt set.mm
 ";
 
+const DIFF: &str = "Usage: mm diff OLD NEW
+       mm diff OLD.. -- NEW..
+
+Checks two versions of a database, the old one first, and tells by label what
+changed: which axioms and theorems, `$a` and `$p`, are gone, were added, or say
+something else. Each version is a file, or several, its top file first.
+
+Two say the same if both are axioms or both theorems, and have the same
+expression, the same mandatory hypotheses in the same order, whatever their
+labels, and the same mandatory distinct pairs. Proofs and comments don't count.
+
+Replies:
+  G LABEL, A LABEL or C LABEL, one on each line                     status 1
+      Gone, in the order of the old version; then added and then changed, each
+      in the order of the new one.
+  differ N gone N added N changed                                   status 0, 1
+      The last line, with the sums: status 0 where nothing differs.
+  no, incomplete, limit or load                                  status 1, 3, 4
+      A version doesn't get yes, and this is what `mm check` replies to it: to
+      the old one, or where that gets yes to the new one.
+
+Example:
+  mm diff old.mm set.mm
+";
+
 const EXPLAIN: &str = "Usage: mm explain [CODE]
 
 Says what the rule with this code is, its usual cause and the remedy; a reply
@@ -611,6 +636,12 @@ fn try_page() -> &'static str
     TRY
 }
 
+fn diff_page() -> &'static str
+    ensures { IsTrue (is_page_of (codes "diff") result.now) }
+{
+    DIFF
+}
+
 fn explain_page() -> &'static str
     ensures { IsTrue (is_page_of (codes "explain") result.now) }
 {
@@ -630,7 +661,7 @@ fn version_page() -> &'static str
 }
 
 /// A page for each command, in the order of the command line.
-pub(crate) fn program_pages() -> [Page<'static>; 18]
+pub(crate) fn program_pages() -> [Page<'static>; 19]
     ensures commands { map (λ page. page.command.now) result ≡ command_names }
     ensures usage { AllByRecursion (λ page. IsTrue (is_page_of page.command.now page.text.now))
         result }
@@ -695,6 +726,10 @@ pub(crate) fn program_pages() -> [Page<'static>; 18]
         Page {
             command: "try",
             text: try_page(),
+        },
+        Page {
+            command: "diff",
+            text: diff_page(),
         },
         Page {
             command: "explain",

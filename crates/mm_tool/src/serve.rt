@@ -9,7 +9,8 @@ ghost use Rattle.mm_rules.specs.Status.{number_of};
 ghost use Rattle.mm_tool.specs.Ending.{BreaksOff, Ends, EndsWithoutWords, AnswersWords};
 ghost use Rattle.mm_tool.specs.Ending.{IsReplyOver};
 ghost use Rattle.mm_tool.specs.Answer.{outcome_of, quiet};
-ghost use Rattle.mm_tool.specs.Ending.{Stops, TellsNotes};
+ghost use Rattle.mm_tool.specs.Ending.{Stops, StopsDiff, TellsNotes};
+ghost use Rattle.mm_tool.specs.Versions.{IsDiffReplyOver};
 ghost use Rattle.mm_tool.specs.Ending.{AsksNamed, IsTextCommand, IsTextReplyOver, StopsText};
 ghost use Rattle.mm_tool.specs.Ending.{StaysUnshown, StopsRun, TakesWhole, TellsLine, error_line};
 ghost use Rattle.mm_tool.specs.Ending.{label_of, stop_status};
@@ -35,14 +36,22 @@ use crate::search_note::all_notes;
 use crate::stop::Stop;
 use crate::texts::Texts;
 use crate::unread::{asked_label, labelled, tell_unread};
-use crate::words::{AskedPatterns, AskedText, Request, TextQuestion, request_of};
+use crate::versions::{Versions, compared_versions, read_versions};
+use crate::words::{AskedPatterns, AskedText, AskedVersions, Request, TextQuestion, request_of};
 use mm_base::File;
 use mm_check::{Command, LoneQuestion, Question, WholeQuestion, alike_files_have_one_reply};
 use mm_rules::Status;
+use mm_step::Profile;
 use mm_text::{BYTE_LIMIT, Counted, alike_files_leave_out_the_same};
 use mm_verdict::Reply;
 use std::alloc::{AllocError, Global};
 use std::io::Write;
+
+/// The command as whose the files of two versions are read.
+const CHECK: Command<'static> = Command::Whole {
+    profile: Profile::Lenient,
+    question: WholeQuestion::Check,
+};
 
 const TOO_LONG: &[u8] = b"load F3\n";
 
@@ -299,6 +308,48 @@ fn find_over<'a, F: Folder, O: Write, P: Write>(
     }
 }
 
+/// Tells what changed between two versions of a database, and writes the reply. The notes beside it,
+/// on files that weren't included, are made before it is written. The files are read as for `check`,
+/// the old ones first; the bytes of the new ones are counted apart.
+///
+/// # Errors
+///
+/// As for `run_over`.
+fn diff_over<'a, F: Folder, O: Write>(
+    resources: Resources,
+    folder: &F,
+    asked: &AskedVersions<'a>,
+    max: usize,
+    out: &mut Counted<O>,
+) -> Result<Answer, Stop<'a>>
+    requires { faults_of out.old < u64.MAX }
+    ensures replies { IfOk result (λ answer. (text : List ℕ) × IsDiffReplyOver
+        (F.holds folder.now) (map (λ name. name.now) asked.now.old.now)
+        (map (λ name. name.now) asked.now.new.now) max text (outcome_of answer)
+        × TakesWhole O.contents text out.old out.new) }
+    ensures stops { IfErr result (λ stop. StopsDiff O.contents (F.holds folder.now)
+        (F.may_fail folder.now) (map (λ name. name.now) asked.now.old.now)
+        (map (λ name. name.now) asked.now.new.now) max stop out.old out.new) }
+{
+    alike_files_have_one_reply();
+    alike_files_leave_out_the_same();
+    let comments = comments_for(&CHECK, max);
+    let Versions {
+        old: before,
+        new: after,
+    } = match read_versions(resources.alloc, folder, asked, max, comments) {
+        Ok(versions) => versions,
+        Err(FileFault::CannotRead(name)) => return Err(Stop::CannotRead { name, label: None }),
+        Err(FileFault::TooLong) => return reply(out, TOO_LONG, Status::Stopped),
+        Err(FileFault::Memory) => return Err(Stop::Memory),
+    };
+    let old = plain_files(resources.alloc, &before)?;
+    let new = plain_files(resources.alloc, &after)?;
+    let compared = compared_versions(resources, &old, &new)?;
+    let notes = compared.notes;
+    noted_reply(out, &compared.reply, notes)
+}
+
 /// Does what the words ask for, and gives back what goes with the answer that was written.
 fn answer<'a, F: Folder, O: Write, P: Write>(
     resources: Resources,
@@ -337,6 +388,7 @@ fn answer<'a, F: Folder, O: Write, P: Write>(
             }
         }
         Request::Find(asked) => find_over(resources, folder, &asked, BYTE_LIMIT, out, progress),
+        Request::Diff(asked) => diff_over(resources, folder, &asked, BYTE_LIMIT, out),
         Request::Text(asked) => {
             match text_over(resources, folder, &asked, BYTE_LIMIT, out, progress) {
                 Ok(answer) => Ok(answer),
@@ -402,8 +454,8 @@ pub(crate) fn tell<E: Write>(stop: &Stop<'_>, err: &mut Counted<E>) -> Status
 ///
 /// - 0: the reply is yes, or what was asked for: axioms, steps, a proof, help, version or an
 ///   explanation; or two proofs are the same;
-/// - 1: the reply is no, or the asked label isn't that of a theorem, or two proofs differ, or a
-///   text is no proof of the theorem;
+/// - 1: the reply is no, or the asked label isn't that of a theorem, or two proofs or two versions
+///   differ, or a text is no proof of the theorem;
 /// - 2: the words aren't understood;
 /// - 3: a proof is incomplete, in the database or among those that are asked about;
 /// - 4: a file, a device, a limit or memory stood in the way.

@@ -50,7 +50,7 @@ th $p term ( 0 + 0 ) $=
 $.
 ";
 
-const ENTRIES: [Entry; 4] = [
+const ENTRIES: [Entry; 6] = [
     Entry {
         name: "first.mm",
         bytes: FIRST,
@@ -69,6 +69,16 @@ const ENTRIES: [Entry; 4] = [
     Entry {
         name: "twice.mm",
         bytes: b"$( one\ntwo $)\n$c 0 $.\n$c 0 $.\n",
+        breaks: false,
+    },
+    Entry {
+        name: "packed.mm",
+        bytes: PACKED,
+        breaks: false,
+    },
+    Entry {
+        name: "less.mm",
+        bytes: b"$c 0 term $. tze $a term 0 $. th $a term 0 $.",
         breaks: false,
     },
 ];
@@ -446,6 +456,72 @@ fn notes_a_file_that_was_not_included(rt: HostRuntime) {
         assert_eq!(rt; status, wanted, "at {words:?}");
         assert!(rt; out.as_slice() == reply, "at {words:?}");
         assert!(rt; err.as_slice() == note, "at {words:?}");
+    }
+}
+
+/// The reply to two versions of which the statements say the same.
+const NONE: &[u8] = b"differ 0 gone 0 added 0 changed\n";
+
+// The packed form of a file is a version in which nothing changed. Each version is a database of its
+// own.
+#[test]
+fn tells_what_changed(rt: HostRuntime) {
+    for (words, wanted, reply, told) in [
+        (
+            ["mm", "diff", "first.mm", "packed.mm"].as_slice(),
+            0,
+            NONE,
+            b"".as_slice(),
+        ),
+        (
+            ["mm", "diff", "first.mm", "--", "first.mm", "four.mm"].as_slice(),
+            0,
+            NONE,
+            NOTE,
+        ),
+        (
+            ["mm", "diff", "first.mm", "less.mm"].as_slice(),
+            1,
+            b"G tpl\nC th\ndiffer 1 gone 0 added 1 changed\n".as_slice(),
+            b"".as_slice(),
+        ),
+        (
+            ["mm", "diff", "less.mm", "first.mm"].as_slice(),
+            1,
+            b"A tpl\nC th\ndiffer 0 gone 1 added 1 changed\n".as_slice(),
+            b"".as_slice(),
+        ),
+        (
+            ["mm", "diff", "less.mm", "--", "twice.mm"].as_slice(),
+            1,
+            b"no twice.mm 4 - M2 0\n".as_slice(),
+            b"".as_slice(),
+        ),
+        (
+            ["mm", "diff", "first.mm", "breaks.mm"].as_slice(),
+            4,
+            b"".as_slice(),
+            b"mm: cannot read breaks.mm\n".as_slice(),
+        ),
+    ] {
+        let (status, out, err) = outcome_of(rt.alloc(), words);
+        assert_eq!(rt; status, wanted, "at {words:?}");
+        assert!(rt; out.as_slice() == reply, "at {words:?}");
+        assert!(rt; err.as_slice() == told, "at {words:?}");
+    }
+}
+
+#[test]
+fn compares_two_versions(rt: HostRuntime) {
+    for words in [
+        ["mm", "diff", "first.mm", "--"].as_slice(),
+        ["mm", "diff", "--", "first.mm", "less.mm"].as_slice(),
+        ["mm", "diff", "first.mm", "less.mm", "four.mm"].as_slice(),
+    ] {
+        let (status, out, err) = outcome_of(rt.alloc(), words);
+        assert_eq!(rt; status, 2, "at {words:?}");
+        assert!(rt; out.is_empty(), "at {words:?}");
+        assert!(rt; err.starts_with(b"mm: diff takes two files, or files on both sides of --\n"));
     }
 }
 

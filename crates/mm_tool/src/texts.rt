@@ -95,6 +95,11 @@ Commands:
   try LABEL PROOF FILES..
                          tells whether the text in the file PROOF is a proof of the theorem with
                          this label, whatever stands in FILES as its proof
+  diff OLD NEW
+  diff OLD.. -- NEW..
+                         checks two versions of a database, each in one file or in several, and
+                         lists the axioms and theorems that are gone, were added or say something
+                         else
   explain [CODE]         says what the rule with this code is, its usual cause and the remedy; a
                          reply line that names one, pasted, does as well; without a code, lists all
                          codes
@@ -220,6 +225,13 @@ Replies of try, on standard output:
       It is none, as for same; or, with A3, its known part breaks no rule. The place in PROOF with
       what explains it, or what is on the stack, follows. Status 1; 3 for A3; 4 for L1 and F3.
 
+Replies of diff, on standard output:
+  G LABEL, A LABEL or C LABEL, one on each line
+      The axioms and theorems that are gone, then those that were added, then those that say
+      something else. At the end differ N gone N added N changed, their sums. Status 0 where nothing
+      differs, else 1.
+  Where a version doesn't get yes: the reply of check, with its status; the old one comes first.
+
 Other replies to a LABEL: that of check, where it is no, limit or load; and
   ask A1 LABEL
       No statement has this label. Status 1.
@@ -232,7 +244,7 @@ Statuses:
   0  yes, same or proof; or axioms, steps, a statement or a proof; or help, the version or an
      explanation was asked for
   1  no: a statement is at fault; or the label is not that of a theorem; or different, or a text is
-     no proof of the theorem
+     no proof of the theorem; or two versions differ
   2  the words are not understood
   3  incomplete: a proof is unfinished, in the database or among those that are asked about
   4  a file, a device, a limit or memory stood in the way
@@ -260,6 +272,7 @@ Examples:
   mm lemmas --list set.mm
   mm same id proof.txt set.mm
   mm try id proof.txt set.mm
+  mm diff old.mm set.mm
   mm explain P8
   mm help check
 ";

@@ -2,13 +2,13 @@
 
 ghost use Rattle.std.specs.Prelude.{◌≡◌, ◌≢◌, ◌↔◌, ◌∷◌, [], List, map, IfOk, IfErr, IfSome, IfNone};
 ghost use Rattle.std.specs.Prelude.{IsTrue, false, true, is_some, ℕ, codes, option_map, position, unwrap_or};
-ghost use Rattle.std.specs.Prelude.{MatchOption};
+ghost use Rattle.std.specs.Prelude.{◌⊎◌, MatchOption, drop};
 ghost use Rattle.std.specs.Str.{bytes_eq};
-ghost use Rattle.clap.specs.Words.{Text, all_of, app_of, first_of, found_of, kind_of, rows_of};
+ghost use Rattle.clap.specs.Words.{Row, Text, all_of, app_of, first_of, found_of, kind_of, rows_of};
 ghost use Rattle.mm_check.specs.declared.command.Command.TheVariants.{File, Whole};
 ghost use Rattle.mm_check.specs.declared.question.WholeQuestion.TheVariants.{Shorter};
 ghost use Rattle.mm_tool.specs.Words.{AreAxiomsFlags, AreMatchesOf, AreSeveral, AreShort, Asks};
-ghost use Rattle.mm_tool.specs.Words.{AreMinimizeFlags, AsksAbout, AsksAxioms, AsksRun};
+ghost use Rattle.mm_tool.specs.Words.{AreMinimizeFlags, AreSides, AsksAbout, AsksAxioms, AsksRun};
 ghost use Rattle.mm_tool.specs.Words.{AsksShow, AsksStatement, ToStandsAlone};
 ghost use Rattle.mm_tool.specs.Words.{AsksUnder, AsksWhole, Commands, DoAgree, IsFilesFault};
 ghost use Rattle.mm_tool.specs.Words.{IsAllFault, IsFaultOfKind, IsGiven, IsOfKind, IsWordFault};
@@ -21,10 +21,11 @@ ghost use Rattle.mm_step.specs.declared.profile.Profile.TheVariants.{Lenient};
 ghost use Rattle.mm_tool.specs.declared.words.Request.TheVariants.{Run};
 
 use crate::command_line::{
-    ALL, AND, AXIOMS, AXIOMS_USE, CHECK, CODE, COMMAND, DUPLICATES, ESSENTIAL, EXPLAIN, FAULTS,
-    FILE, FILES, FIND, FIND_USE, HELP, HYPOTHESES, KNOWN, LABEL, LEAST, LEMMAS, LEMMAS_USE, LIST,
-    MINIMIZE, MINIMIZE_USE, MOST, NORMAL, PACKED, PATTERN, PROOF, SAME, SHOW, SMALL, STATEMENT,
-    STATEMENT_USE, STRICT, TO, TRY, USERS, USES, VERSION, WHOLE, WHY, whole_command,
+    ALL, AND, AXIOMS, AXIOMS_USE, CHECK, CODE, COMMAND, DIFF, DIFF_USE, DUPLICATES, ESSENTIAL,
+    EXPLAIN, FAULTS, FILE, FILES, FIND, FIND_USE, HELP, HYPOTHESES, KNOWN, LABEL, LEAST, LEMMAS,
+    LEMMAS_USE, LIST, MINIMIZE, MINIMIZE_USE, MOST, NORMAL, PACKED, PATTERN, PROOF, SAME, SHOW,
+    SMALL, STATEMENT, STATEMENT_USE, STRICT, TO, TRY, USERS, USES, VERSION, WHOLE, WHY,
+    whole_command,
 };
 use crate::stop::Stop;
 use clap::error::ErrorKind;
@@ -45,6 +46,9 @@ const GIVEN: &str = "true";
 
 /// What is said of a word that says no number.
 const NO_NUMBER: &str = "it is no number from 1 to 4294967295";
+
+/// What stands between the files of two versions.
+const DASHES: &str = "--";
 
 /// How `clap` begins the advice to pass an unknown option as a value.
 const ADVICE: &str = "\n\n  tip: to pass '";
@@ -84,6 +88,14 @@ pub(crate) struct AskedPatterns<'a> {
     pub(crate) names: Vec<&'a str>,
 }
 
+/// A question what changed from the database in the files with the names `old` to the one in those
+/// with the names `new`.
+#[derive(Clone, Copy)]
+pub(crate) struct AskedVersions<'a> {
+    pub(crate) old: &'a [&'a str],
+    pub(crate) new: &'a [&'a str],
+}
+
 /// What the program is asked.
 #[derive(Drop)]
 pub(crate) enum Request<'a> {
@@ -102,6 +114,8 @@ pub(crate) enum Request<'a> {
     Find(AskedPatterns<'a>),
     /// To read a proof's text, and to say what it is to a theorem.
     Text(AskedText<'a>),
+    /// To tell what changed between two versions of a database.
+    Diff(AskedVersions<'a>),
 }
 
 /// The command that the first word after the program's name names.
@@ -849,12 +863,71 @@ fn text_request<'a>(
     Ok(None)
 }
 
-/// What these matches of the words ask for. The text on the use is that of the command line.
+/// The words behind the program's name and the command.
+fn behind_command<'a>(words: &'a [&'a str]) -> &'a [&'a str]
+    ensures { map (λ word. word.now) result.now ≡ drop 2 (map (λ word. word.now) words.entry.now) }
+{
+    match words {
+        [_, _, behind @ ..] => behind,
+        _ => &[],
+    }
+}
+
+/// The versions in the files with these names, where there are some on both sides.
+fn versions_in<'a>(old: &'a [&'a str], new: &'a [&'a str]) -> Option<AskedVersions<'a>>
+    ensures some { IfSome result (λ sides. (sides.old.now ≡ old.entry.now)
+        × (sides.new.now ≡ new.entry.now) × (old.entry.now ≢ []) × (new.entry.now ≢ [])) }
+    ensures none { IfNone result ((old.entry.now ≡ []) ⊎ (new.entry.now ≡ [])) }
+{
+    if old.is_empty() || new.is_empty() {
+        None
+    } else {
+        Some(AskedVersions { old, new })
+    }
+}
+
+/// The names of the files on both sides of the first `--` among these words, where there are some
+/// on each; where no word is `--`, of two words the first and the second.
+fn sides_of<'a>(words: &'a [&'a str]) -> Option<AskedVersions<'a>>
+    ensures some { IfSome result (λ sides. AreSides (map (λ word. word.now) words.entry.now)
+        (map (λ name. name.now) sides.old.now) (map (λ name. name.now) sides.new.now)) }
+    ensures none { IfNone result ((old new : List Text)
+        → ¬ (AreSides (map (λ word. word.now) words.entry.now) old new)) }
+{
+    match number_of(words, DASHES) {
+        Some(number) => versions_in(&words[..number], &words[number + 1..]),
+        None if words.len() == 2 => versions_in(&words[..1], &words[1..]),
+        None => None,
+    }
+}
+
+/// What these words ask for, whose command is `diff`. For `clap` a `--` ends the options, and is
+/// left out: so the files are taken from the words themselves, which hold no option.
+fn diff_request<'a>(alloc: Global, words: &'a [&'a str]) -> Result<Request<'a>, Stop<'a>>
+    ensures request { IfOk result (λ request. (rows : List Row)
+        → Commands (map (λ word. word.now) words.entry.now) (codes "diff") rows
+        → Asks (map (λ word. word.now) words.entry.now) request) }
+    ensures fault { IfErr result (λ stop. (rows : List Row)
+        → Commands (map (λ word. word.now) words.entry.now) (codes "diff") rows
+        → IsWordFault (map (λ word. word.now) words.entry.now) stop) }
+{
+    match sides_of(behind_command(words)) {
+        Some(asked) => Ok(Request::Diff(asked)),
+        None => Err(Stop::Usage(format!(in alloc;
+            "mm: diff takes two files, or files on both sides of --\nUsage: {DIFF_USE}\n"
+        )?)),
+    }
+}
+
+/// What these matches of the words ask for, whose command isn't `diff`. The text on the use is that
+/// of the command line.
 fn request_of_matches<'a>(
     alloc: Global,
     command: &mut Command<'a>,
     matches: &ArgMatches<'a>,
 ) -> Result<Request<'a>, Stop<'a>>
+    requires { (words : List Text) (rows : List Row) → AreMatchesOf words matches.now
+        → ¬ (Commands words (codes "diff") rows) }
     ensures request { IfOk result (λ request. (words : List Text)
         → AreMatchesOf words matches.now → Asks words request) }
     ensures fault { IfErr result (λ stop. (words : List Text)
@@ -893,6 +966,26 @@ fn request_of_matches<'a>(
     Err(Stop::Usage(command.render_usage()?))
 }
 
+/// What the words ask for, of which these are the matches.
+fn request_of_words<'a>(
+    alloc: Global,
+    command: &mut Command<'a>,
+    matches: &ArgMatches<'a>,
+    words: &'a [&'a str],
+) -> Result<Request<'a>, Stop<'a>>
+    ensures request { IfOk result (λ request.
+        AreMatchesOf (map (λ word. word.now) words.entry.now) matches.now
+        → Asks (map (λ word. word.now) words.entry.now) request) }
+    ensures fault { IfErr result (λ stop.
+        AreMatchesOf (map (λ word. word.now) words.entry.now) matches.now
+        → IsWordFault (map (λ word. word.now) words.entry.now) stop) }
+{
+    if matches.subcommand_matches(DIFF).is_some() {
+        return diff_request(alloc, words);
+    }
+    request_of_matches(alloc, command, matches)
+}
+
 /// What the words ask for, by the command line.
 fn request_by<'a>(
     alloc: Global,
@@ -906,7 +999,7 @@ fn request_by<'a>(
     let topic = first_topic(command, words);
     match command.try_get_matches_from_mut(words) {
         Ok(matches) => {
-            let request = request_of_matches(alloc, command, &matches);
+            let request = request_of_words(alloc, command, &matches, words);
             drop(matches);
             request
         }

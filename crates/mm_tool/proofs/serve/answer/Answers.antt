@@ -5,6 +5,7 @@ use Rattle.mm_tool.specs.Answer.{quiet}
 use Rattle.mm_tool.proofs.AnsweredWords.{answers_text, asks_explained, asks_run, explained}
 use Rattle.mm_tool.proofs.AnsweredWords.{helped, stops_answer, stops_command, stops_help}
 use Rattle.mm_tool.proofs.AnsweredWords.{stops_refused, stops_text, stops_unexplained}
+use Rattle.mm_tool.proofs.AnsweredWords.{stops_versions}
 use Rattle.mm_tool.proofs.AskedWords.{named_by_words, texts_in}
 use Rattle.mm_tool.proofs.serve.answer.Goals as goal
 
@@ -137,7 +138,25 @@ pub returns-in-Ok-text_over-clause-answers : goal.returns-in-Ok-text_over-clause
 returns-in-Ok-text_over-clause-answers g c =
     let asked = rw c.in-Text.is at c.in_ok-topic.ensures.request in
     let (text, reply, taken) = c.in-Ok-text_over.ensures.replies in
-    (text, inr (inr (inr (inr (_, _, _, _, asked, reply)))), taken)
+    (text, inr (inr (inr (inr (inl (_, _, _, _, asked, reply))))), taken)
+
+pub returns-in-Diff-clause-answers : goal.returns-in-Diff-clause-answers
+returns-in-Diff-clause-answers g c =
+    let asked = rw c.in-Diff.is at c.in_ok-topic.ensures.request in
+    IfOk-weaker c.diff_over.result _ _
+    (λ answer told.
+    let (text, reply, taken) = told in
+    (text, inr (inr (inr (inr (inr (_, _, asked, reply))))), taken))
+    c.diff_over.ensures.replies
+
+pub returns-in-Diff-clause-stops : goal.returns-in-Diff-clause-stops
+returns-in-Diff-clause-stops g c =
+    let asked = rw c.in-Diff.is at c.in_ok-topic.ensures.request in
+    IfErr-weaker c.diff_over.result _ _
+    (λ stop told. stops_versions g.O.Write.contents (g.F.Folder.holds c.args.folder.now)
+    (g.F.Folder.may_fail c.args.folder.now) c.args.texts.now _ (texts_in c.args.words.now) _ _ stop
+    _ _ asked told)
+    c.diff_over.ensures.stops
 
 pub returns-clause-stops : goal.returns-clause-stops
 returns-clause-stops g c =

@@ -47,6 +47,33 @@ returns-in_err-minimize_request-clause-fault c =
     (c.in-Some-subcommand_matches-3.ensures.found.0 refl)
     c.in-Some-subcommand_matches-3.ensures.rows))
 
+pub returns-in-Some-clause-request : goal.returns-in-Some-clause-request
+returns-in-Some-clause-request c = λ words met.
+    c.in_ok-proof_request.ensures.request words (commands_met words c.args.matches.now _ _ met
+    (c.in-Some.ensures.found.0 refl)
+    c.in-Some.ensures.rows)
+
+pub returns-in-Some-subcommand_matches-clause-request :
+    goal.returns-in-Some-subcommand_matches-clause-request
+returns-in-Some-subcommand_matches-clause-request c = λ words met.
+    c.in_ok-proof_request-2.ensures.request words (commands_met words c.args.matches.now _ _ met
+    (c.in-Some-subcommand_matches.ensures.found.0 refl)
+    c.in-Some-subcommand_matches.ensures.rows)
+
+pub returns-in-Some-subcommand_matches-2-clause-request :
+    goal.returns-in-Some-subcommand_matches-2-clause-request
+returns-in-Some-subcommand_matches-2-clause-request c = λ words met.
+    c.in_ok-proof_request-3.ensures.request words (commands_met words c.args.matches.now _ _ met
+    (c.in-Some-subcommand_matches-2.ensures.found.0 refl)
+    c.in-Some-subcommand_matches-2.ensures.rows)
+
+pub returns-in-Some-subcommand_matches-3-clause-request :
+    goal.returns-in-Some-subcommand_matches-3-clause-request
+returns-in-Some-subcommand_matches-3-clause-request c = λ words met.
+    c.in_ok-minimize_request.ensures.request words (commands_met words c.args.matches.now _ _ met
+    (c.in-Some-subcommand_matches-3.ensures.found.0 refl)
+    c.in-Some-subcommand_matches-3.ensures.rows)
+
 pub returns-in-Some-subcommand_matches-4-clause-request :
     goal.returns-in-Some-subcommand_matches-4-clause-request
 returns-in-Some-subcommand_matches-4-clause-request c = λ words met.

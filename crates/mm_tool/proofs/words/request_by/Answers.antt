@@ -10,16 +10,16 @@ returns-in-Ok-clause-request c =
     let words : List (List ℕ) = map (λ word. word.now) c.args.words.now in
     let met = matches_met (app_of c.args.command.now) words c.in-Ok.matches c.requires
     c.in-Ok.ensures.kinds c.in-Ok.ensures.ok.2 in
-    IfOk-weaker c.request_of_matches-request.result _ _ (λ request h. h words met)
-    c.request_of_matches-request.ensures.request
+    IfOk-weaker c.request_of_words-request.result _ _ (λ request h. h met)
+    c.request_of_words-request.ensures.request
 
 pub returns-in-Ok-clause-fault : goal.returns-in-Ok-clause-fault
 returns-in-Ok-clause-fault c =
     let words : List (List ℕ) = map (λ word. word.now) c.args.words.now in
     let met = matches_met (app_of c.args.command.now) words c.in-Ok.matches c.requires
     c.in-Ok.ensures.kinds c.in-Ok.ensures.ok.2 in
-    IfErr-weaker c.request_of_matches-request.result _ _ (λ stop h. h words met)
-    c.request_of_matches-request.ensures.fault
+    IfErr-weaker c.request_of_words-request.result _ _ (λ stop h. h met)
+    c.request_of_words-request.ensures.fault
 
 pub returns-in-Err-clause-request : goal.returns-in-Err-clause-request
 returns-in-Err-clause-request c =

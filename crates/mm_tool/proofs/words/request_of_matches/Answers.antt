@@ -139,5 +139,6 @@ returns-clause-fault c = λ words met.
             c.in_default-subcommand_matches-6.is (c.subcommand_matches-7.ensures.found.1 named)),
         other _ rows met (λ named. none_there c.subcommand_matches-8.result
             c.in_default-subcommand_matches-7.is (c.subcommand_matches-8.ensures.found.1 named)),
+        c.requires words rows met,
       ),
     ))

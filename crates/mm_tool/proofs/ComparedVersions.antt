@@ -1,0 +1,359 @@
+-- Two versions as they are named and read, and what is told of them. Begin with `sides_at` for the
+-- words, and with `diff_over` for what is told of files as they were read.
+use Rattle.std.proofs.Common.{◌≡◌, ◌≢◌, ℕ, ◌+◌, ◌≤◌, List, [], ◌∷◌, length, take, drop}
+use Rattle.std.proofs.Common.{IfNone, IfSome}
+use Rattle.std.proofs.Common.{Result, Ok, Err, IfOk, IfErr, OnOk, OnErr}
+use Rattle.std.proofs.Common.{Option, Some, None, Bor, codes, inl, inr, refl, sym, ap, subst, ◌∙◌, arith, ◌⊎◌}
+use Rattle.std.proofs.lemmas.List.{drop-map, length-map, take-map}
+use Rattle.std.specs.List.{AllZip, position}
+use Rattle.std.specs.Str.{bytes_eq}
+use Rattle.mm_base.specs.MostBytes.{most_bytes}
+use Rattle.mm_base.specs.Statement.{PlainStatement}
+use Rattle.mm_text.specs.Alike.{AreAlike}
+use Rattle.mm_text.specs.Files.{PlainFile, total_bytes}
+use Rattle.mm_text.specs.Included.{AlikeFilesLeaveOutTheSame}
+use Rattle.mm_text.specs.LineNumbers.{feeds_in}
+use Rattle.mm_text.specs.Reading.{Reads}
+use Rattle.mm_text.proofs.Alike.AlikeItems.{alike_files_are_read_alike}
+use Rattle.mm_step.specs.declared.fault.ProofRule.TheVariants.{L1}
+use Rattle.mm_step.specs.declared.profile.Profile.{Profile}
+use Rattle.mm_step.specs.declared.profile.Profile.TheVariants.{Lenient}
+use Rattle.mm_rules.specs.Verdict.{HasVerdict, Incomplete, Load, Refused, Verdict, Yes}
+use Rattle.mm_rules.specs.Verdict.{proofs_of, sentences}
+use Rattle.mm_rules.specs.declared.rule.Rule.{Rule}
+use Rattle.mm_rules.specs.declared.rule.Rule.TheVariants as rules
+use Rattle.mm_verdict.specs.Reply.{refusal_status, status_of, text_of}
+use Rattle.mm_verdict.proofs.Verdicts.AcceptedStatements.{same_reading}
+use Rattle.mm_diff.specs.Diff.{TellsChanges}
+use Rattle.mm_diff.specs.Reply.{AreRefused, HaveYes, IsDiffReply, IsRefusal, IsReplyBeside}
+use Rattle.mm_check.specs.Alike.{AlikeFilesHaveOneReply}
+use Rattle.mm_check.specs.Reply.{IsReply}
+use Rattle.mm_check.proofs.AlikeVerdicts.{same_sentences}
+use Rattle.mm_tool.proofs.AskedWords.{number_named, texts_in}
+use Rattle.mm_tool.proofs.FilesRead.{alike_files, fewer_bytes, files_noted_over, same_files}
+use Rattle.mm_text.specs.declared.counted.Counted.{Counted}
+use Rattle.mm_tool.specs.Answer.{Outcome, outcome_of}
+use Rattle.mm_tool.specs.Ending.{BreaksOff, StopsDiff, TakesWhole}
+use Rattle.mm_tool.specs.Folder.{IsFileFault, KnownFile}
+use Rattle.mm_tool.specs.Notes.{AreNotesOn}
+use Rattle.mm_tool.specs.ReadFiles.{IsReadAs}
+use Rattle.mm_tool.specs.Versions.{AreNotesOnBoth, AreTaken, IsDiffReplyOver, IsVersionFault}
+use Rattle.mm_tool.specs.Words.{AreSides}
+use Rattle.mm_tool.specs.declared.words.AskedVersions.{AskedVersions}
+use Rattle.mm_tool.specs.declared.answer.Answer.{Answer}
+use Rattle.mm_tool.specs.declared.stop.Stop.{Stop}
+use Rattle.mm_tool.specs.declared.stop.Stop.TheVariants.{CannotWrite}
+use Rattle.mm_tool.specs.declared.files.Comments.{Comments}
+use Rattle.mm_tool.specs.declared.files.Comments.TheVariants.{Kept, LeftOut}
+use Rattle.mm_tool.specs.declared.files.FileFault.{FileFault}
+use Rattle.mm_tool.specs.declared.files.FileFault.TheVariants.{CannotRead, Memory, TooLong}
+
+-- ==== the two sides that words name
+
+-- where names are words, there are some
+some_texts : (words : List (Bor (List ℕ))) → words ≢ [] → texts_in words ≢ []
+some_texts [] some none = some refl
+some_texts (w ∷ ws) some none = absurd (cc)
+
+-- Two parts of words are the two sides, where a `--` stands between them.
+pub sides_at : (words old new : List (Bor (List ℕ))) (number : ℕ)
+    → Some number ≡ position (λ other. bytes_eq other.now (codes "--")) words
+    → old ≡ take number words → new ≡ drop (number + 1) words → old ≢ [] → new ≢ []
+    → AreSides (texts_in words) (texts_in old) (texts_in new)
+sides_at words old new number found before after some more = (
+  some_texts old some,
+  some_texts new more,
+  inl (
+    number,
+    number_named words words (codes "--") (Some number) refl found,
+    ap texts_in before ∙ sym (take-map (λ (w : Bor (List ℕ)). w.now) number words),
+    ap texts_in after ∙ sym (drop-map (λ (w : Bor (List ℕ)). w.now) (number + 1) words),
+  ),
+)
+
+-- There are no sides where nothing stands on one side of the first `--`.
+pub no_sides_at : (words : List (Bor (List ℕ))) (number : ℕ)
+    → Some number ≡ position (λ other. bytes_eq other.now (codes "--")) words
+    → (take number words ≡ []) ⊎ (drop (number + 1) words ≡ [])
+    → (old new : List (List ℕ)) → AreSides (texts_in words) old new → ⊥
+no_sides_at words number found (inl none) old new (some, more, inl (other, is, before, after)) =
+    let same : other ≡ number =
+    let e = sym is ∙ number_named words words (codes "--") (Some number) refl found in cc in
+    some (before ∙ ap (λ n. take n (texts_in words)) same
+    ∙ take-map (λ (w : Bor (List ℕ)). w.now) number words ∙ ap texts_in none)
+no_sides_at words number found (inr none) old new (some, more, inl (other, is, before, after)) =
+    let same : other ≡ number =
+    let e = sym is ∙ number_named words words (codes "--") (Some number) refl found in cc in
+    more (after ∙ ap (λ n. drop (n + 1) (texts_in words)) same
+    ∙ drop-map (λ (w : Bor (List ℕ)). w.now) (number + 1) words ∙ ap texts_in none)
+no_sides_at words number found none old new (some, more, inr (is, two, before, after)) =
+    let e = sym is ∙ number_named words words (codes "--") (Some number) refl found in
+    absurd (cc)
+
+-- The versions that are found on both sides of the first `--` are in the files of the two sides.
+pub sides_given : (words old new : List (Bor (List ℕ))) (number : ℕ) (r : Option AskedVersions)
+    → Some number ≡ position (λ other. bytes_eq other.now (codes "--")) words
+    → old ≡ take number words → new ≡ drop (number + 1) words
+    → IfSome r (λ sides. (sides.old.now ≡ old) × (sides.new.now ≡ new) × (old ≢ []) × (new ≢ []))
+    → IfSome r (λ sides. AreSides (texts_in words) (texts_in sides.old.now)
+    (texts_in sides.new.now))
+sides_given words old new number (Some sides) found before after (is_old, is_new, some, more) =
+    rw (is_old, is_new) (sides_at words old new number found before after some more)
+sides_given words old new number None found before after h = tt
+
+-- Where none are found there, there are no two sides.
+pub no_sides_given : (words old new : List (Bor (List ℕ))) (number : ℕ)
+    (r : Option AskedVersions)
+    → Some number ≡ position (λ other. bytes_eq other.now (codes "--")) words
+    → old ≡ take number words → new ≡ drop (number + 1) words
+    → IfNone r ((old ≡ []) ⊎ (new ≡ []))
+    → IfNone r ((one other : List (List ℕ)) → ¬ (AreSides (texts_in words) one other))
+no_sides_given words old new number (Some sides) found before after h = tt
+no_sides_given words old new number None found before after (inl none) =
+    no_sides_at words number found (inl (sym before ∙ none))
+no_sides_given words old new number None found before after (inr none) =
+    no_sides_at words number found (inr (sym after ∙ none))
+
+-- Nor where no `--` stands among the words, and they aren't two.
+pub no_sides_in : (words : List (Bor (List ℕ)))
+    → None ≡ position (λ other. bytes_eq other.now (codes "--")) words → length words ≢ 2
+    → (old new : List (List ℕ)) → AreSides (texts_in words) old new → ⊥
+no_sides_in words none others old new (some, more, inl (other, is, before, after)) =
+    let e = sym is ∙ number_named words words (codes "--") None refl none in
+    absurd (cc)
+no_sides_in words none others old new (some, more, inr (is, two, before, after)) =
+    others (sym (length-map words (λ (w : Bor (List ℕ)). w.now)) ∙ two)
+
+-- ==== why not all files were read
+
+module _ (holds : List ℕ → KnownFile) (may_fail : List ℕ → Type 0) (old new : List (List ℕ))
+    (max : ℕ) where
+  -- An old one wasn't.
+  pub old_fault : (fault : FileFault) → IsFileFault holds may_fail old max fault
+      → IsVersionFault holds may_fail old new max fault
+  old_fault (CannotRead name) why = inl why
+  old_fault TooLong why = inl why
+  old_fault Memory why = tt
+
+  -- The old ones were, and a new one wasn't.
+  pub new_fault : (before : List PlainFile) → AreTaken holds old max before → (fault : FileFault)
+      → IsFileFault holds may_fail new max fault → IsVersionFault holds may_fail old new max fault
+  new_fault before taken (CannotRead name) why = inr (before, taken, why)
+  new_fault before taken TooLong why = inr (before, taken, why)
+  new_fault before taken Memory why = tt
+
+-- ==== what is told of files that show the same
+
+-- ---- files that don't get yes
+
+-- the status of a refusal isn't 0
+refused_not_done : (rule : Rule) → refusal_status rule ≡ 0 → ⊥
+refused_not_done (rules.Proof L1) is = absurd (omega arith)
+refused_not_done rule is = absurd (omega arith)
+
+not_done : (verdict : Verdict) → IsRefusal verdict → status_of verdict ≡ 0 → ⊥
+not_done (Load rule) refusal is = absurd (omega arith)
+not_done (Refused refused) refusal is = refused_not_done refused.rule is
+not_done (Incomplete labels) refusal is = absurd (omega arith)
+not_done (Yes count proofs) refusal is = absurd refusal
+
+-- a verdict of another status is a refusal
+refuses : (verdict : Verdict) → (status_of verdict ≡ 0 → ⊥) → IsRefusal verdict
+refuses (Load rule) other = tt
+refuses (Refused refused) other = tt
+refuses (Incomplete labels) other = tt
+refuses (Yes count proofs) other = absurd (other refl)
+
+module _ (law : AlikeFilesHaveOneReply) (profile : Profile) (files others : List PlainFile)
+    (alike : AllZip AreAlike files others) (small : total_bytes files ≤ most_bytes)
+    (short : total_bytes others ≤ most_bytes) where
+  -- Others that show the same get the same reply.
+  refused_alike : (text : List ℕ) (status : ℕ) → AreRefused profile files text status
+      → AreRefused profile others text status
+  refused_alike text status refused =
+      let reply : IsReply profile files text status = record {
+        verdict = refused.verdict;
+        holds = refused.holds;
+        said = refused.said;
+        ends = refused.ends;
+      } in
+      let other = law profile files others alike small short text status reply in
+      record {
+        verdict = other.verdict;
+        holds = other.holds;
+        refuses = refuses other.verdict
+            (λ is. not_done refused.verdict refused.refuses (sym refused.ends ∙ other.ends ∙ is));
+        said = other.said;
+        ends = other.ends;
+      }
+
+  -- ---- files that do
+
+  -- others of whose verdict the status is 0 get yes
+  yes_of : (statements : List PlainStatement) → Reads files statements None → (verdict : Verdict)
+      → HasVerdict profile others verdict → status_of verdict ≡ 0
+      → (same : List PlainStatement) × HaveYes profile others same
+      × (sentences statements ≡ sentences same)
+  yes_of statements reads (Load rule) holds is = absurd (omega arith)
+  yes_of statements reads (Refused refused) holds is =
+      absurd (refused_not_done refused.rule is)
+  yes_of statements reads (Incomplete labels) holds is = absurd (omega arith)
+  yes_of statements reads (Yes count proofs) (same, accepted, proved, counted, proofs_counted) is =
+      let read = alike_files_are_read_alike files others alike statements None reads in
+      let one = (same_reading others read.same same read.end None read.reads accepted.reads).0 in (
+        same,
+        (accepted, proved),
+        same_sentences (feeds_in files) (feeds_in others) statements read.same read.spelled
+            ∙ ap sentences one,
+      )
+
+  -- Others that show the same get yes too, and their statements say the same.
+  yes_alike : (statements : List PlainStatement) → HaveYes profile files statements
+      → (same : List PlainStatement) × HaveYes profile others same
+      × (sentences statements ≡ sentences same)
+  yes_alike statements (accepted, proved) =
+      let verdict : Verdict = Yes (length statements) (proofs_of statements) in
+      let reply : IsReply profile files (text_of files verdict) 0 = record {
+        verdict = verdict;
+        holds = (statements, accepted, proved, refl, refl);
+        said = refl;
+        ends = refl;
+      } in
+      let other = law profile files others alike small short (text_of files verdict) 0 reply in
+      yes_of statements accepted.reads other.verdict other.holds (sym other.ends)
+
+-- ---- the reply
+
+module _ (law : AlikeFilesHaveOneReply) (profile : Profile) (old olds new news : List PlainFile)
+    (alike : AllZip AreAlike old olds) (small : total_bytes old ≤ most_bytes)
+    (short : total_bytes olds ≤ most_bytes) (alike_too : AllZip AreAlike new news)
+    (small_too : total_bytes new ≤ most_bytes) (short_too : total_bytes news ≤ most_bytes)
+    (text : List ℕ) (status : ℕ) where
+  beside_alike : (before : _) → IsReplyBeside profile before new text status
+      → IsReplyBeside profile before news text status
+  beside_alike before (inl refused) =
+      inl (refused_alike law profile new news alike_too small_too short_too text status refused)
+  beside_alike before (inr (after, whole, tells)) =
+      let (same, got, says) =
+      yes_alike law profile new news alike_too small_too short_too after whole in
+      inr (
+        same,
+        got,
+        subst (λ ss. TellsChanges before ss text status) says tells,
+      )
+
+  -- Of versions that show the same, the same is told.
+  diff_alike : IsDiffReply profile old new text status → IsDiffReply profile olds news text status
+  diff_alike (inl refused) =
+      inl (refused_alike law profile old olds alike small short text status refused)
+  diff_alike (inr (before, whole, beside)) =
+      let (same, got, says) = yes_alike law profile old olds alike small short before whole in
+      inr (
+        same,
+        got,
+        subst (λ ss. IsReplyBeside profile ss news text status) says
+            (beside_alike (sentences before) beside),
+      )
+
+-- ==== what is told of files as they were read is told of the whole ones
+
+module _ (comments : Comments) (max : ℕ) (only : comments ≡ LeftOut → max ≤ most_bytes) where
+  -- The reply.
+  pub diff_over : AlikeFilesHaveOneReply → (olds news old new : List PlainFile)
+      → AllZip (IsReadAs comments) olds old → AllZip (IsReadAs comments) news new
+      → total_bytes olds ≤ max → total_bytes news ≤ max → (text : List ℕ) (status : ℕ)
+      → IsDiffReply Lenient old new text status → IsDiffReply Lenient olds news text status
+  diff_over law olds news old new all more within few text status reply =
+      by comments refl
+    where
+      by : (c : Comments) → comments ≡ c → IsDiffReply Lenient olds news text status
+      by Kept is =
+          subst (λ l. IsDiffReply Lenient l news text status) (same_files olds old (rw is at all))
+          (subst (λ l. IsDiffReply Lenient old l text status) (same_files news new (rw is at more))
+          reply)
+      by LeftOut is =
+          let most = only is in
+          let all' = rw is at all in
+          let more' = rw is at more in
+          let fewer = fewer_bytes olds old all' in
+          let fewer_too = fewer_bytes news new more' in
+          diff_alike law Lenient old olds new news (alike_files olds old all')
+          (omega (arith, fewer, within, most)) (omega (arith, within, most))
+          (alike_files news new more') (omega (arith, fewer_too, few, most))
+          (omega (arith, few, most)) text status reply
+
+  -- The notes on the files of one version.
+  noted_over : AlikeFilesLeaveOutTheSame → (wholes files : List PlainFile)
+      → AllZip (IsReadAs comments) wholes files → total_bytes wholes ≤ max → (notes : List ℕ)
+      → AreNotesOn files notes → AreNotesOn wholes notes
+  noted_over law wholes files all within notes noted = by comments refl
+    where
+      by : (c : Comments) → comments ≡ c → AreNotesOn wholes notes
+      by Kept is =
+          subst (λ l. AreNotesOn l notes) (same_files wholes files (rw is at all)) noted
+      by LeftOut is =
+          let most = only is in
+          files_noted_over law wholes files (rw is at all) (omega (arith, within, most)) notes noted
+
+  -- The notes on those of both.
+  pub both_noted_over : AlikeFilesLeaveOutTheSame → (olds news old new : List PlainFile)
+      → AllZip (IsReadAs comments) olds old → AllZip (IsReadAs comments) news new
+      → total_bytes olds ≤ max → total_bytes news ≤ max → (notes : List ℕ)
+      → AreNotesOnBoth old new notes → AreNotesOnBoth olds news notes
+  both_noted_over law olds news old new all more within few notes
+      (first, second, one, other, is) = (
+        first,
+        second,
+        noted_over law olds old all within first one,
+        noted_over law news new more few second other,
+        is,
+      )
+
+-- All that is told.
+pub diff_told : (holds : List ℕ → KnownFile) (before after : List (List ℕ))
+    → AlikeFilesHaveOneReply → AlikeFilesLeaveOutTheSame → (comments : Comments) (max : ℕ)
+    → (comments ≡ LeftOut → max ≤ most_bytes) → (old new : List PlainFile)
+    → ((olds news : List PlainFile) × AreTaken holds before max olds
+    × AreTaken holds after max news × AllZip (IsReadAs comments) olds old
+    × AllZip (IsReadAs comments) news new)
+    → (text : List ℕ) (outcome : Outcome) → IsDiffReply Lenient old new text outcome.status
+    → AreNotesOnBoth old new outcome.notes
+    → IsDiffReplyOver holds before after max text outcome
+diff_told holds before after law noting comments max only old new
+    (olds, news, taken, taken_too, reads, reads_too) text outcome reply notes =
+    inl (
+      olds,
+      news,
+      taken,
+      taken_too,
+      diff_over comments max only law olds news old new reads reads_too taken.1 taken_too.1 text
+          outcome.status reply,
+      both_noted_over comments max only noting olds news old new reads reads_too taken.1
+          taken_too.1 outcome.notes notes,
+    )
+
+-- ==== how the question about two versions ends
+
+module _ {O : Type 0} (contents : O → Option (List ℕ)) (holds : List ℕ → KnownFile)
+    (may_fail : List ℕ → Type 0) (before after : List (List ℕ)) (max : ℕ) where
+  -- The reply was written.
+  pub diff_written : {E : Type 0} (r : Result Answer E) (text : List ℕ) (outcome : Outcome)
+      (old new : Counted O) → IfOk r (λ answer. outcome_of answer ≡ outcome)
+      → OnOk r (TakesWhole contents text old new)
+      → IsDiffReplyOver holds before after max text outcome
+      → IfOk r (λ answer. (told : List ℕ)
+      × IsDiffReplyOver holds before after max told (outcome_of answer)
+      × TakesWhole contents told old new)
+  diff_written (Ok answer) text outcome old new is whole reply =
+      (text, subst (IsDiffReplyOver holds before after max text) (sym is) reply, whole)
+  diff_written (Err e) text outcome old new is whole reply = tt
+
+  -- It broke off.
+  pub diff_broke : {T : Type 0} (r : Result T Stop) (text : List ℕ) (outcome : Outcome)
+      (old new : Counted O) → IfErr r (λ stop. stop ≡ CannotWrite)
+      → OnErr r (BreaksOff contents text old new)
+      → IsDiffReplyOver holds before after max text outcome
+      → IfErr r (λ stop. StopsDiff contents holds may_fail before after max stop old new)
+  diff_broke (Ok v) text outcome old new stop broke reply = tt
+  diff_broke (Err s) text outcome old new stop broke reply =
+      rw stop (text, outcome, reply, broke)
