@@ -29,8 +29,11 @@ use std::alloc::{AllocError, Global};
 pub(crate) enum Asked<'a> {
     /// For the verdict alone.
     Verdict,
-    /// What each theorem depends on; if `essential`, of the axioms those alone that have its type code.
-    Axioms { essential: bool },
+    /// What each theorem depends on; if `essential`, of the axioms those alone that have its type
+    /// code.
+    Axioms {
+        essential: bool,
+    },
     /// Which proofs become shorter by what the library has.
     Shorter,
     /// A question about the statement with a label.

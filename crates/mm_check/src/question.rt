@@ -39,7 +39,8 @@ pub enum WholeQuestion {
     Faults,
     /// For an explanation of each of them.
     Why,
-    /// What each theorem depends on; if `essential`, of the axioms those alone that have its type code.
+    /// What each theorem depends on; if `essential`, of the axioms those alone that have its type
+    /// code.
     Axioms { essential: bool },
     /// Which proofs become shorter by what the library has.
     Shorter,
