@@ -1,5 +1,5 @@
 #!/bin/sh
-# Writes crates/mm_tool/src/rules.rt and code_lines.rt, the texts of `mm explain`, from
+# Writes crates/mm_help/src/rules.rt and code_lines.rt, the texts of `mm explain`, from
 # docs/RULES.md: each rule has a paragraph there that begins with its code in bold, with its usual
 # cause and its remedy, or a row in the table of the files. Each section with rules is a chapter.
 # What its paragraph says of the example stands below the example.
@@ -7,7 +7,7 @@
 set -eu
 top=$(CDPATH='' cd -- "$(dirname -- "$0")/.." && pwd)
 source=$top/docs/RULES.md
-crate=$top/crates/mm_tool/src
+crate=$top/crates/mm_help/src
 
 # The text of the named file: `rules` or `code_lines`.
 made() {

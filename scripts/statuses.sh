@@ -184,7 +184,7 @@ literal() {
         gsub(/\\\\/, "\\", line)
         printf is_cut ? "%s" : "%s\n", line
         was_cut = is_cut
-    }' "$top/crates/mm_tool/src/$1"
+    }' "$top/crates/mm_help/src/$1"
 }
 
 # narrow FILE COLUMNS: no line of the text has more columns.
@@ -218,7 +218,7 @@ explanations() {
         gsub(/\\"/, "\"")
         gsub(/\\\\/, "\\")
         print
-    }' "$top/crates/mm_tool/src/rules.rt"
+    }' "$top/crates/mm_help/src/rules.rt"
 }
 
 cp "$top/examples/"*.mm "$top/examples/folder/"*.mm .
@@ -405,7 +405,7 @@ ends 2 '' "mm: no command has the name nonsense\nthe commands are $(echo $comman
     sed 's/ /, /g')\n" help nonsense
 ends 2 '' "mm: no command has the name \nthe commands are $(echo $commands |
     sed 's/ /, /g')\n" help ''
-kit=$(sed -n 's/.*"mm 0.1.0, proved with \(.*\)\\n";$/\1/p' "$top/crates/mm_tool/src/texts.rt")
+kit=$(sed -n 's/.*"mm 0.1.0, proved with \(.*\)\\n";$/\1/p' "$top/crates/mm_help/src/texts.rt")
 if [ -n "$is_plain" ]; then
     printf 'mm 0.1.0, plain Rust: the source that is proved with %s, compiled by %s\n' \
         "$kit" 'another compiler; nothing is proved on this machine' >version.txt

@@ -24,19 +24,19 @@ use Rattle.mm_rules.specs.Answer.{labels_at}
 use Rattle.mm_axioms.specs.AllAxioms.{ReportLine, AreReportLines}
 use Rattle.mm_rules.specs.declared.ask.AskFault.{AskFault}
 use Rattle.mm_rules.specs.declared.ask.AskFault.TheVariants as ask
-use Rattle.mm_check.specs.declared.command.Command.{Command}
-use Rattle.mm_check.specs.declared.command.Command.TheVariants.{Whole, About, Lone, File, Shorter}
-use Rattle.mm_check.specs.declared.command.Command.TheVariants.{Find, Statement, Lemmas}
+use Rattle.mm_verdict.specs.declared.question.Command.{Command}
+use Rattle.mm_verdict.specs.declared.question.Command.TheVariants.{Whole, About, Lone, File, Shorter}
+use Rattle.mm_verdict.specs.declared.question.Command.TheVariants.{Find, Statement, Lemmas}
 use Rattle.mm_check.specs.Chain.{IsChainReply}
 use Rattle.mm_find.specs.Reply.{IsFindReply, query_for}
-use Rattle.mm_check.specs.declared.question.Question.{Question}
-use Rattle.mm_check.specs.declared.question.Question.TheVariants as question
-use Rattle.mm_check.specs.declared.question.LoneQuestion.{LoneQuestion}
-use Rattle.mm_check.specs.declared.question.LoneQuestion.TheVariants.{Known, Try}
-use Rattle.mm_check.specs.declared.question.WholeQuestion.{WholeQuestion}
-use Rattle.mm_check.specs.declared.question.WholeQuestion.TheVariants.{Check, Faults, Why}
-use Rattle.mm_check.specs.declared.question.WholeQuestion.TheVariants.{Axioms as AllAxioms}
-use Rattle.mm_check.specs.declared.question.WholeQuestion.TheVariants.{Shorter as AllShorter}
+use Rattle.mm_verdict.specs.declared.question.Question.{Question}
+use Rattle.mm_verdict.specs.declared.question.Question.TheVariants as question
+use Rattle.mm_verdict.specs.declared.question.LoneQuestion.{LoneQuestion}
+use Rattle.mm_verdict.specs.declared.question.LoneQuestion.TheVariants.{Known, Try}
+use Rattle.mm_verdict.specs.declared.question.WholeQuestion.{WholeQuestion}
+use Rattle.mm_verdict.specs.declared.question.WholeQuestion.TheVariants.{Check, Faults, Why}
+use Rattle.mm_verdict.specs.declared.question.WholeQuestion.TheVariants.{Axioms as AllAxioms}
+use Rattle.mm_verdict.specs.declared.question.WholeQuestion.TheVariants.{Shorter as AllShorter}
 use Rattle.mm_axioms.specs.Users.{IsAssertionFault, AreUsers}
 use Rattle.mm_axioms.specs.Essential.{IsEssentialReport}
 use Rattle.mm_rules.specs.Rests.{IsAskFault, IsReport}

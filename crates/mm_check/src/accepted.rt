@@ -14,14 +14,16 @@ ghost use Rattle.mm_check.specs.Asked.{AsksWithin, IsAnswerOver};
 ghost use Rattle.mm_check.specs.Reply.{IsQuestionReply, ListsShorter};
 ghost use Rattle.mm_lemmas.specs.Told.{ListsLemmas};
 
-use crate::question::{Question, answer_to, text_reply};
+use crate::question::{answer_to, text_reply};
 use mm_axioms::all_axioms_text;
 use mm_base::{File, Seed};
 use mm_lemmas::{LemmaList, Selection, lemma_list};
 use mm_minimize::{SearchWatch, Searched, Wanted, minimized_file, minimized_list};
 use mm_rules::{AskFault, CheckFault, name_of};
 use mm_step::Profile;
-use mm_verdict::{Checked, Reply, accepted_reply, check_with, conclusion_status, verdict_reply};
+use mm_verdict::{
+    Checked, Question, Reply, accepted_reply, check_with, conclusion_status, verdict_reply,
+};
 use std::alloc::{AllocError, Global};
 
 /// What is asked of a database that is checked first.

@@ -8,12 +8,11 @@ ghost use Rattle.mm_check.specs.Reply.{IsLoneAnswer, IsLoneReply, IsNotFoundRepl
 ghost use Rattle.mm_rules.specs.Status.{number_of};
 
 use crate::checked_prefix::known_reply;
-use crate::question::LoneQuestion;
 use mm_base::{File, Seed};
 use mm_explain::read_to::read_to;
 use mm_explain::{Reached, Unreached, try_reply};
 use mm_rules::AskFault;
-use mm_verdict::{Reply, ask_reply, fault_reply};
+use mm_verdict::{LoneQuestion, Reply, ask_reply, fault_reply};
 use std::alloc::{AllocError, Global};
 
 /// The reply where no theorem is found at the label.

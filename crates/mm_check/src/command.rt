@@ -10,7 +10,6 @@ ghost use Rattle.mm_check.specs.declared.command.RunFault.TheVariants.{Memory};
 
 use crate::accepted::{Asked, checked_reply};
 use crate::alone::lone_reply;
-use crate::question::{LoneQuestion, Question, WholeQuestion};
 use crate::stated::statement_reply;
 use crate::whole::{all_saved_reply, lemmas_reply, whole_reply};
 use mm_base::{File, Seed};
@@ -19,62 +18,10 @@ use mm_minimize::{SearchWatch, Wanted};
 use mm_rules::Status;
 use mm_step::Profile;
 use mm_text::Counted;
-use mm_verdict::{Form, Reply, Unwatched};
+use mm_verdict::{Command, LoneQuestion, Question, Reply, Unwatched, WholeQuestion};
 use std::alloc::{AllocError, Global};
 use std::io::Write;
 use thiserror::Error;
-
-/// What the program is asked.
-#[derive(Clone, Copy, PartialEq, Eq, Debug)]
-pub enum Command<'a> {
-    /// A question about the whole database under this profile. The other commands ask under the
-    /// lenient one.
-    Whole {
-        profile: Profile,
-        question: WholeQuestion,
-    },
-    /// A question about the theorem with this label.
-    About {
-        label: &'a [u8],
-        question: Question<'a>,
-    },
-    /// A question about the theorem with this label alone, over the statements before it.
-    Lone {
-        label: &'a [u8],
-        question: LoneQuestion<'a>,
-    },
-    /// Of the statement with this label, whatever its kind: where it stands, its frame and what it
-    /// says. What stands after it isn't read, and no proof is judged.
-    Statement(&'a [u8]),
-    /// For the bytes of the handed file with this number, which is below the count of files, with
-    /// each complete proof in this form.
-    File {
-        form: Form,
-        file: usize,
-    },
-    /// For the bytes of the handed file with this number, which is below the count of files, with
-    /// each proof replaced that becomes shorter by what the library has; if `duplicates`, also by one
-    /// that uses one assertion alone besides those of syntax.
-    Shorter {
-        file: usize,
-        duplicates: bool,
-    },
-    /// For a line for each lemma that the library lacks, as a search finds them: so many at most,
-    /// each of which saves so many bytes or more.
-    Lemmas {
-        most: usize,
-        least: usize,
-    },
-    /// For a line for each assertion with each of these patterns, whatever the proofs; if `whole`,
-    /// as whole expressions; if `hypotheses`, also in essential hypotheses. A pattern has at most
-    /// 1,073,741,824 bytes, and its tokens stand between white space. Where there is none, for each
-    /// assertion.
-    Find {
-        patterns: &'a [&'a [u8]],
-        whole: bool,
-        hypotheses: bool,
-    },
-}
 
 /// Why a reply wasn't written, or not to its end.
 #[derive(Clone, Copy, PartialEq, Eq, Debug, Drop, Error)]

@@ -18,6 +18,6 @@ mod stated;
 mod whole;
 
 pub use alike::alike_files_have_one_reply;
-pub use command::{Command, RunFault, reply_to, run};
+pub use command::{RunFault, reply_to, run};
 pub use mm_frame::LabelId;
-pub use question::{LoneQuestion, Question, WholeQuestion};
+pub use mm_verdict::{Command, LoneQuestion, Question, WholeQuestion};

@@ -1,5 +1,4 @@
-//! The questions, and the answers to those about a label, over a database in which nothing is at
-//! fault.
+//! The answers to the questions about a label, over a database in which nothing is at fault.
 
 ghost use Rattle.std.specs.Prelude.{◌≡◌, ◌<◌, ◌++◌, List, map, length, OnOk, IfOk, IfErr};
 ghost use Rattle.std.specs.Prelude.{None, codes, true, MatchResult};
@@ -27,59 +26,8 @@ use mm_render::{
     is_same_proof, normal_form, packed_form, proof_listing, saved_file, small_form, uses_listing,
 };
 use mm_rules::{AskFault, Status};
-use mm_verdict::{Checked, Form, Reply, ask_reply, push_label, push_labels};
+use mm_verdict::{Checked, Form, Question, Reply, ask_reply, push_label, push_labels};
 use std::alloc::{AllocError, Global};
-
-/// A question about the whole database.
-#[derive(Clone, Copy, PartialEq, Eq, Debug)]
-pub enum WholeQuestion {
-    /// Whether it is accepted.
-    Check,
-    /// For all its faults, in one run.
-    Faults,
-    /// For an explanation of each of them.
-    Why,
-    /// What each theorem depends on; if `essential`, of the axioms those alone that have its type
-    /// code.
-    Axioms { essential: bool },
-    /// Which proofs become shorter by what the library has.
-    Shorter,
-}
-
-/// A question about the theorem with a label, or about the assertion.
-#[derive(Clone, Copy, PartialEq, Eq, Debug)]
-pub enum Question<'a> {
-    /// What it depends on; if `essential`, of the axioms those alone that have its type code.
-    Axioms { essential: bool },
-    /// Why it depends on the assertion with this label: for a shortest chain of uses.
-    Chain(&'a [u8]),
-    /// How it is proved, step by step.
-    Show,
-    /// What each step of its proof uses; if `essential`, of the steps alone that are reached from
-    /// the last one through `$e`.
-    Uses { essential: bool },
-    /// For its proof in this form; if `whole`, for the bytes of its file, with this proof in place of
-    /// its own.
-    Form { form: Form, whole: bool },
-    /// Whether this text is the same proof.
-    Same(&'a [u8]),
-    /// Of the assertion with the label: for the theorems whose proofs use it; if `all`, for those
-    /// that depend on it.
-    Users { all: bool },
-    /// For the small text of its shortest proof by what the library has.
-    Minimized,
-}
-
-/// A question about the theorem with a label alone, over the statements before it, whatever their
-/// proofs. What stands after it isn't read.
-#[derive(Clone, Copy, PartialEq, Eq, Debug)]
-pub enum LoneQuestion<'a> {
-    /// How it is proved, step by step, as far as that is known.
-    Known,
-    /// Whether this text is a proof of it, whatever stands in the file as its proof. Its name is
-    /// that of the file that holds it: the place of a fault is reported in that file.
-    Try { name: &'a [u8], text: &'a [u8] },
-}
 
 /// A line for the label of each of these numbers, after a question mark.
 fn push_unproved(

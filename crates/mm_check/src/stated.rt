@@ -2,7 +2,6 @@
 
 ghost use Rattle.std.specs.Prelude.{map, IfOk};
 ghost use Rattle.mm_text.specs.Files.{plain_file};
-ghost use Rattle.mm_base.specs.Statement.{plain_statement};
 ghost use Rattle.mm_check.specs.Reply.{IsStatementReply, IsStatementText};
 ghost use Rattle.mm_explain.specs.Mirror.Stated.{HasStated};
 ghost use Rattle.mm_rules.specs.Status.{number_of};

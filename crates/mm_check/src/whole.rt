@@ -14,7 +14,6 @@ ghost use Rattle.mm_check.specs.Reply.{IsFaultsReply, IsWhyReply, IsAllSavedRepl
 ghost use Rattle.mm_check.specs.Reply.{IsLemmasReply, IsQuestionReply, IsWholeReply};
 
 use crate::accepted::{Asked, checked_reply};
-use crate::question::WholeQuestion;
 use mm_base::{File, Seed};
 use mm_explain::{Unaccepted, explained};
 use mm_lemmas::Selection;
@@ -24,8 +23,8 @@ use mm_rules::{AskFault, AskRule, CheckFault, Refusal, Status, name_of};
 use mm_save::saved_all;
 use mm_step::Profile;
 use mm_verdict::{
-    AllFaults, Checked, Form, Reply, accepted_reply, all_faults, ask_reply, fault_reply,
-    first_status, push_refusals,
+    AllFaults, Checked, Form, Reply, WholeQuestion, accepted_reply, all_faults, ask_reply,
+    fault_reply, first_status, push_refusals,
 };
 use std::alloc::{AllocError, Global};
 

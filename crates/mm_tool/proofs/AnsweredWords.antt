@@ -8,36 +8,40 @@ use Rattle.std.proofs.lemmas.List.{take-append-le, length-map}
 use Rattle.std.proofs.Math.Seq.{take-append-add}
 use Rattle.std.proofs.KnownBytes.{Appends-trans}
 use Rattle.mm_text.specs.declared.counted.Counted.{Counted}
-use Rattle.mm_tool.specs.Ending.{BreaksOff, TakesWhole, TellsLine, AsksNamed, StopsRun}
+use Rattle.mm_tool.specs.Ending.{BreaksOff, TakesWhole, TellsLine, StopsRun}
+use Rattle.mm_words.specs.Words.{AsksNamed}
 use Rattle.mm_tool.specs.Ending.{IsProofRead, IsTextReplyOver, IsTextCommand, StopsText, Ends}
 use Rattle.mm_tool.specs.Ending.{EndsWithoutWords, AnswersWords, IsReplyOver, Stops, TellsNotes}
-use Rattle.mm_tool.specs.Ending.{error_line, stop_status, unread_stop, AddsLabel, IsHelp}
-use Rattle.mm_tool.specs.Ending.{IsHelpFault, StopsDiff, label_of}
+use Rattle.mm_tool.specs.Ending.{error_line, stop_status, AddsLabel}
+use Rattle.mm_words.specs.Unread.{unread_stop}
+use Rattle.mm_help.specs.Help.{IsHelp}
+use Rattle.mm_tool.specs.Ending.{StopsDiff, label_of}
+use Rattle.mm_help.specs.Help.{IsHelpFault}
 use Rattle.std.specs.List.{AllZip}
 use Rattle.mm_base.proofs.Lists.{zip_length}
 use Rattle.mm_check.specs.Reply.{AsksHanded}
-use Rattle.mm_check.specs.declared.command.Command.TheVariants.{File, Find, Shorter}
+use Rattle.mm_verdict.specs.declared.question.Command.TheVariants.{File, Find, Shorter}
 use Rattle.mm_tool.specs.ReadFiles.{IsReadAs}
 use Rattle.mm_tool.specs.declared.files.Comments.{Comments}
 use Rattle.mm_text.specs.Files.{PlainFile}
-use Rattle.mm_check.specs.declared.command.Command.{Command}
+use Rattle.mm_verdict.specs.declared.question.Command.{Command}
 use Rattle.mm_rules.specs.declared.status.Status.{Status}
 use Rattle.mm_tool.specs.Folder.{AreTooLong, KnownFile, MayHold}
 use Rattle.mm_tool.specs.Answer.{Outcome, quiet, outcome_of}
-use Rattle.mm_tool.specs.declared.stop.Stop.{Stop}
-use Rattle.mm_tool.specs.declared.stop.Stop.TheVariants.{CannotWrite, Memory, Usage, CannotRead}
+use Rattle.mm_words.specs.declared.stop.Stop.{Stop}
+use Rattle.mm_words.specs.declared.stop.Stop.TheVariants.{CannotWrite, Memory, Usage, CannotRead}
 use Rattle.std.specs.Global.{Vec}
 use Rattle.mm_rules.specs.Status.{number_of}
-use Rattle.mm_tool.specs.Words.{Asks, AsksExplain, AsksHelp, AsksRun, AsksText, IsWordFault}
-use Rattle.mm_tool.specs.Words.{AsksDiff}
-use Rattle.mm_tool.specs.Explained.{IsExplanation, IsExplanationFault}
-use Rattle.mm_tool.specs.declared.words.Request.{Request}
-use Rattle.mm_tool.specs.declared.words.TextQuestion.{TextQuestion}
-use Rattle.mm_tool.specs.declared.words.Request.TheVariants.{Help, Explain, Run}
+use Rattle.mm_words.specs.Words.{Asks, AsksExplain, AsksHelp, AsksRun, AsksText, IsWordFault}
+use Rattle.mm_words.specs.Words.{AsksDiff}
+use Rattle.mm_help.specs.Explained.{IsExplanation, IsExplanationFault}
+use Rattle.mm_words.specs.declared.request.Request.{Request}
+use Rattle.mm_words.specs.declared.request.TextQuestion.{TextQuestion}
+use Rattle.mm_words.specs.declared.request.Request.TheVariants.{Help, Explain, Run}
 use Rattle.mm_tool.specs.declared.answer.Answer.{Answer}
-use Rattle.mm_tool.specs.declared.folder.ArgumentFault.{ArgumentFault}
-use Rattle.mm_tool.specs.declared.texts.Texts.{Texts}
-use Rattle.mm_tool.specs.declared.folder.ArgumentFault.TheVariants as argument
+use Rattle.mm_words.specs.declared.arguments.ArgumentFault.{ArgumentFault}
+use Rattle.mm_help.specs.declared.texts.Texts.{Texts}
+use Rattle.mm_words.specs.declared.arguments.ArgumentFault.TheVariants as argument
 
 -- ==== texts that are written one after the other
 

@@ -9,7 +9,7 @@ use Rattle.std.proofs.lemmas.List.{map-append, take_more, length-map}
 use Rattle.std.specs.List.{AllByRecursion, AllZip, range_with_len}
 use Rattle.mm_text.specs.Files.{PlainFile, total_bytes, plain_file, BreaksLoad}
 use Rattle.mm_base.specs.MostBytes.{most_bytes}
-use Rattle.mm_tool.proofs.AskedWords.{texts_in}
+use Rattle.mm_words.proofs.AskedWords.{texts_in}
 use Rattle.mm_tool.specs.Folder.{ComesNext, IsFileFault, IsHeld, KnownFile, MayHold, Unknown}
 use Rattle.mm_tool.specs.Folder.{Absent, Holds}
 use Rattle.mm_tool.specs.declared.files.FileFault.{FileFault}
@@ -20,9 +20,9 @@ use Rattle.mm_text.specs.Alike.{AreAlike}
 use Rattle.mm_check.specs.Alike.{AlikeFilesHaveOneReply}
 use Rattle.mm_check.specs.Reply.{IsReplyTo}
 use Rattle.mm_rules.specs.Places.{name_of}
-use Rattle.mm_check.specs.declared.command.Command.{Command}
-use Rattle.mm_check.specs.declared.command.Command.TheVariants.{Whole}
-use Rattle.mm_check.specs.declared.question.WholeQuestion.TheVariants.{Check}
+use Rattle.mm_verdict.specs.declared.question.Command.{Command}
+use Rattle.mm_verdict.specs.declared.question.Command.TheVariants.{Whole}
+use Rattle.mm_verdict.specs.declared.question.WholeQuestion.TheVariants.{Check}
 use Rattle.mm_step.specs.declared.profile.Profile.{Profile}
 use Rattle.mm_tool.specs.declared.files.Comments.{Comments}
 use Rattle.mm_tool.specs.declared.files.Comments.TheVariants.{Kept, LeftOut}

@@ -1,4 +1,3 @@
-pub mod AskedWords
 pub mod FilesRead
 pub mod AnsweredWords
 pub mod ComparedVersions

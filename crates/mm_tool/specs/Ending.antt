@@ -1,10 +1,10 @@
 -- How the program ends: with an answer on standard output and its status, or with a line on
 -- standard error.
-use Rattle.std.specs.Prelude.{◌≡◌, ◌≢◌, ℕ, ◌+◌, ◌<◌, ◌≤◌, length, List, [], ◌∷◌, ◌++◌, Option}
-use Rattle.std.specs.Prelude.{Contains, codes, false}
+use Rattle.std.specs.Prelude.{◌≡◌, ℕ, ◌+◌, ◌<◌, ◌≤◌, length, List, [], ◌∷◌, ◌++◌, Option}
+use Rattle.std.specs.Prelude.{codes, false}
 use Rattle.std.specs.Prelude.{string_bytes, ◌⊎◌, Bool, Some, None, nat_eq, option_map, if◌then◌else◌}
 use Rattle.std.specs.Borrow.{Bor}
-use Rattle.std.specs.List.{AllByRecursion, ends_with}
+use Rattle.std.specs.List.{ends_with}
 use Rattle.std.specs.Str.{bytes_eq}
 use Rattle.std.specs.Io.KnownBytes.{Appends}
 use Rattle.mm_text.specs.Files.{PlainFile, total_bytes}
@@ -13,32 +13,31 @@ use Rattle.mm_text.specs.declared.counted.Counted.{Counted}
 use Rattle.mm_check.specs.Reply.{IsReplyTo}
 use Rattle.mm_rules.specs.Status.{number_of}
 use Rattle.mm_minimize.specs.declared.search_watch.Searched.{Searched}
-use Rattle.mm_check.specs.declared.command.Command.{Command}
+use Rattle.mm_verdict.specs.declared.question.Command.{Command}
 use Rattle.mm_code.specs.Layout.{texts}
-use Rattle.mm_check.specs.declared.command.Command.TheVariants.{Whole, About, File, Lone, Shorter}
-use Rattle.mm_check.specs.declared.command.Command.TheVariants.{Find, Statement, Lemmas}
-use Rattle.mm_check.specs.declared.question.Question.TheVariants.{Same}
-use Rattle.mm_check.specs.declared.question.LoneQuestion.TheVariants as lone
-use Rattle.mm_tool.specs.declared.words.TextQuestion.{TextQuestion}
-use Rattle.mm_tool.specs.declared.words.TextQuestion.TheVariants as of_text
+use Rattle.mm_verdict.specs.declared.question.Command.TheVariants.{Whole, About, File, Lone, Shorter}
+use Rattle.mm_verdict.specs.declared.question.Command.TheVariants.{Find, Statement, Lemmas}
+use Rattle.mm_verdict.specs.declared.question.Question.TheVariants.{Same}
+use Rattle.mm_verdict.specs.declared.question.LoneQuestion.TheVariants as lone
+use Rattle.mm_words.specs.declared.request.TextQuestion.{TextQuestion}
+use Rattle.mm_words.specs.declared.request.TextQuestion.TheVariants as of_text
 use Rattle.mm_rules.specs.declared.status.Status.{Status}
 use Rattle.mm_rules.specs.declared.status.Status.TheVariants as status
 use Rattle.clap.specs.Words.{Text}
 use Rattle.mm_tool.specs.Folder.{AreHeld, AreTooLong, IsHeld, IsUnreadable, KnownFile, MayHold}
 use Rattle.mm_tool.specs.Answer.{Outcome, quiet}
-use Rattle.mm_tool.specs.Explained.{IsExplanation, IsUnknownCode}
+use Rattle.mm_help.specs.Explained.{IsExplanation, IsUnknownCode}
 use Rattle.mm_tool.specs.Notes.{AreNotesBeside, search_line}
-use Rattle.mm_tool.specs.Words.{AsksHelp, AsksVersion, AsksExplain, AsksRun, AsksText}
-use Rattle.mm_tool.specs.Words.{AreRefusedWords, AreShort, AsksDiff}
+use Rattle.mm_words.specs.Words.{AsksHelp, AsksVersion, AsksExplain, AsksRun, AsksText}
+use Rattle.mm_words.specs.Words.{AreRefusedWords, AsksDiff}
 use Rattle.mm_tool.specs.Versions.{IsDiffReplyOver, IsVersionUnreadable}
-use Rattle.mm_tool.specs.declared.folder.ArgumentFault.{ArgumentFault}
-use Rattle.mm_tool.specs.declared.folder.ArgumentFault.TheVariants as argument
-use Rattle.mm_tool.specs.declared.pages.Page.{Page}
+use Rattle.mm_words.specs.declared.arguments.ArgumentFault.{ArgumentFault}
+use Rattle.mm_words.specs.declared.arguments.ArgumentFault.TheVariants as argument
 use Rattle.mm_tool.specs.declared.progress_line.ProgressLine.{ProgressLine}
-use Rattle.mm_tool.specs.declared.texts.Texts.{Texts}
-use Rattle.mm_tool.specs.declared.stop.Stop.{Stop}
-use Rattle.mm_tool.specs.declared.stop.Stop.TheVariants.{Usage, NotText, CannotRead, CannotWrite}
-use Rattle.mm_tool.specs.declared.stop.Stop.TheVariants.{Memory}
+use Rattle.mm_help.specs.declared.texts.Texts.{Texts}
+use Rattle.mm_words.specs.declared.stop.Stop.{Stop}
+use Rattle.mm_words.specs.declared.stop.Stop.TheVariants.{Usage, NotText, CannotRead, CannotWrite}
+use Rattle.mm_words.specs.declared.stop.Stop.TheVariants.{Memory}
 
 -- ---- devices
 
@@ -120,25 +119,6 @@ IsTextReplyOver question holds label proof names max text outcome =
     × (command : Command) × IsTextCommand question label given command
     × IsReplyOver holds command names max text outcome)
 
--- This is the page of the command with the asked name; where none is asked for, the whole help.
-abbrev pub IsHelp : Texts → (topic : Option Text) → List ℕ → Type 0
-IsHelp texts None text = text ≡ texts.help.now
-IsHelp texts (Some name) text =
-    (page : Page) × Contains texts.pages.now page × (page.command.now ≡ name)
-    × (text ≡ page.text.now)
-
--- No command has the asked name.
-abbrev pub IsUnknownCommand : Texts → (topic : Option Text) → Type 0
-IsUnknownCommand texts None = ⊥
-IsUnknownCommand texts (Some name) =
-    AllByRecursion (λ page. page.command.now ≢ name) texts.pages.now
-
--- why there is no help
-abbrev pub IsHelpFault : Texts → (topic : Option Text) → Stop → Type 0
-IsHelpFault texts topic (Usage text) = IsUnknownCommand texts topic
-IsHelpFault texts topic Memory = Unit {0}
-IsHelpFault texts topic other = ⊥
-
 -- This text answers the words, with this status and these notes.
 abbrev pub AnswersWords : (List ℕ → KnownFile) → Texts → ℕ → List Text → List ℕ → Outcome → Type 0
 AnswersWords holds texts max words text outcome =
@@ -155,11 +135,6 @@ AnswersWords holds texts max words text outcome =
     × IsDiffReplyOver holds old new max text outcome)))))
 
 -- ---- ends without an answer
-
--- the end of the program where the words weren't read
-abbrev pub unread_stop : ArgumentFault → Stop
-unread_stop argument.NotText = NotText
-unread_stop argument.Memory = Memory
 
 -- the status of an end without an answer: 2 where the words aren't understood, else 4
 abbrev pub stop_status : Stop → Status
@@ -198,14 +173,6 @@ error_line NotText = codes "mm: a word is not UTF-8\n"
 error_line (CannotRead name label) = unread_lines name.now (option_map (λ l. l.now) label)
 error_line CannotWrite = codes "mm: cannot write\n"
 error_line Memory = codes "mm: out of memory\n"
-
--- the file about which a command asks is one of those with these names, and no pattern that it seeks
--- is too long
-abbrev pub AsksNamed : Command → List Text → Type 0
-AsksNamed (File form number) names = number < length names
-AsksNamed (Shorter number duplicates) names = number < length names
-AsksNamed (Find patterns whole hypotheses) names = AreShort (texts patterns.now)
-AsksNamed other names = Unit {0}
 
 -- The end is the same; where a file can't be read, the word that was taken for the label is told
 -- too.

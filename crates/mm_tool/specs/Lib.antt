@@ -1,10 +1,7 @@
 pub mod Answer
 pub mod Ending
-pub mod Explained
 pub mod Folder
 pub mod Notes
-pub mod Words
 pub mod Versions
 pub mod ReadFiles
-pub mod Pages
 pub mod Progress

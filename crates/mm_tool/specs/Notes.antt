@@ -13,10 +13,10 @@ use Rattle.mm_rules.specs.declared.rule.AskRule.TheVariants.{A1}
 use Rattle.mm_rules.specs.Places.{name_of}
 use Rattle.mm_minimize.specs.declared.search_watch.Searched.{Searched}
 use Rattle.mm_minimize.specs.declared.search_watch.Searched.TheVariants as of_search
-use Rattle.mm_check.specs.declared.command.Command.{Command}
-use Rattle.mm_check.specs.declared.command.Command.TheVariants as commands
-use Rattle.mm_check.specs.declared.question.Question.TheVariants.{Minimized}
-use Rattle.mm_check.specs.declared.question.WholeQuestion.TheVariants as questions
+use Rattle.mm_verdict.specs.declared.question.Command.{Command}
+use Rattle.mm_verdict.specs.declared.question.Command.TheVariants as commands
+use Rattle.mm_verdict.specs.declared.question.Question.TheVariants.{Minimized}
+use Rattle.mm_verdict.specs.declared.question.WholeQuestion.TheVariants as questions
 use Rattle.mm_verdict.specs.Reply.{IsAskReply}
 
 -- the line on a file that wasn't included

@@ -1,22 +1,18 @@
 //! What the program needs of its host: files by their names, and the words that it was started
 //! with.
 
-ghost use Rattle.std.specs.Prelude.{◌≡◌, ◌≢◌, ◌↔◌, ℕ, ⊤, List, Option, Some, None, map};
-ghost use Rattle.std.specs.Prelude.{IfOk, IfErr, IfSome, OnErr, IsErrAnd, IsErrOf, string_bytes};
-ghost use Rattle.std.specs.IoError.{error_kind};
-ghost use Rattle.std.specs.declared.io.ErrorKind.TheVariants.{OutOfMemory};
+ghost use Rattle.std.specs.Prelude.{◌≡◌, ℕ, ⊤, List, Some, None, IfOk, OnErr};
 ghost use Rattle.mm_tool.specs.Folder.{KnownFile, MayHold, Unknown};
-ghost use Rattle.mm_tool.specs.declared.folder.ArgumentFault.TheVariants.{Memory};
 
 use mm_base::Seed;
 use mm_text::Source;
-use std::alloc::{AllocError, AllocGlobal, Global};
+use mm_words::{ArgumentFault, Arguments, words_of};
+use std::alloc::{AllocGlobal, Global};
 use std::env::Env;
 use std::fs::OpenFile;
 use std::io::Read;
 use std::rt::Files;
 use std::{env, fs, io};
-use thiserror::Error;
 
 /// What lists and tables are made with.
 #[derive(Clone, Copy)]
@@ -49,55 +45,6 @@ pub(crate) trait Folder {
             (λ all. Self.File.left file ≡ Some all)) }
         ensures later { IfOk result (λ file. Self.File.may_fail file → may_fail self.now name.now) }
         ensures cause { OnErr result (may_fail self.now name.now) };
-}
-
-/// Why the words weren't read.
-#[derive(Clone, Copy, PartialEq, Eq, Debug, Drop, Error)]
-pub(crate) enum ArgumentFault {
-    /// A word isn't UTF-8, or the host failed.
-    #[error("a word is not UTF-8")]
-    NotText,
-    /// A growth was refused.
-    #[error("out of memory")]
-    Memory,
-}
-
-impl From<AllocError> for ArgumentFault {
-    ghost from_gives = { λ _ e. e ≡ Memory };
-
-    fn from(_e: AllocError) -> ArgumentFault {
-        ArgumentFault::Memory
-    }
-}
-
-impl From<io::Error> for ArgumentFault {
-    ghost from_gives = { λ error e. (e ≡ Memory) ↔ (error_kind error ≡ OutOfMemory) };
-
-    fn from(error: io::Error) -> ArgumentFault {
-        match error.kind() {
-            io::ErrorKind::OutOfMemory => ArgumentFault::Memory,
-            _ => ArgumentFault::NotText,
-        }
-    }
-}
-
-/// What has the words that the program was started with.
-pub(crate) trait Arguments {
-    /// The words, where they are known.
-    ghost words: { Self → Option (List (List ℕ)) };
-
-    /// A word may not be UTF-8, or the host may fail.
-    ghost may_fail: { Self → Type 0 };
-
-    /// The words, the program's name first.
-    ///
-    /// # Errors
-    ///
-    /// `NotText` only where the words may fail; `Memory` where a growth was refused.
-    fn words(&self, alloc: Global) -> Result<Vec<String>, ArgumentFault>
-        ensures all { IfOk result (λ list. IfSome (words self.now)
-            (λ all. map string_bytes list.items ≡ all)) }
-        ensures cause { IsErrOf result ArgumentFault.NotText → may_fail self.now };
 }
 
 /// An open file of the host, which tells how long it is.
@@ -136,22 +83,6 @@ impl<R: Files> Folder for Host<'_, R> {
     fn open(&self, name: &str) -> io::Result<HostFile<R::File>> {
         Ok(HostFile(fs::open(self.0, name)?))
     }
-}
-
-/// The words that the host gave, or why there are none.
-///
-/// # Errors
-///
-/// `NotText` only where the host failed, and not for lack of memory; `Memory` where a growth was
-/// refused.
-pub(crate) fn words_of(
-    alloc: Global,
-    given: io::Result<env::Args>,
-) -> Result<Vec<String>, ArgumentFault>
-    ensures cause { IsErrOf result ArgumentFault.NotText
-        → IsErrAnd given (λ error. error_kind error ≢ OutOfMemory) }
-{
-    Ok(given?.collect(alloc)?)
 }
 
 impl<R: Env + AllocGlobal> Arguments for Host<'_, R> {

@@ -2,26 +2,16 @@
 #![tactic(auto)]
 
 mod answer;
-mod code_lines;
-mod command_line;
-mod explain;
 mod files;
 mod folder;
-mod help;
 mod label_note;
 mod notes;
-mod pages;
 mod progress_line;
-mod rule_text;
-mod rules;
 mod say;
 mod search_note;
 mod serve;
-mod stop;
-mod texts;
 mod unread;
 mod versions;
-mod words;
 
 ghost use Rattle.std.specs.Int.{from_le_bytes, w64};
 ghost use Rattle.std.specs.Prelude.{◌≡◌, OnErr, OnOk};
@@ -29,14 +19,12 @@ ghost use Rattle.mm_base.specs.Seed.{known_number, seed_of};
 
 use folder::{Host, Resources};
 use mm_base::Seed;
+use mm_help::{program_pages, program_texts, rule_chapters};
 use mm_text::Counted;
-use pages::program_pages;
 use progress_line::ProgressLine;
-use rules::rule_chapters;
 use std::io::{self, IsTerminal};
 use std::process::ExitCode;
 use std::random::RandomSource;
-use texts::program_texts;
 
 /// The seed of the number that these random bytes spell, the lowest first, or the one that everybody
 /// knows where they weren't given.

@@ -1,9 +1,9 @@
 //! The program over its words and devices.
 
-ghost use Rattle.std.specs.Prelude.{◌≡◌, ◌↔◌, ◌+◌, ◌<◌, ◌≤◌, ◌++◌, ◌⊎◌, map, codes, string_bytes};
+ghost use Rattle.std.specs.Prelude.{◌≡◌, ◌↔◌, ◌<◌, ◌≤◌, ◌⊎◌, map, string_bytes};
 ghost use Rattle.std.specs.Prelude.{IfOk, IfErr, IfSome, List, None, OnOk, OnErr, ℕ};
 ghost use Rattle.mm_code.specs.Layout.{texts};
-ghost use Rattle.mm_text.specs.Device.{faults_of, inner_of};
+ghost use Rattle.mm_text.specs.Device.{faults_of};
 ghost use Rattle.mm_text.specs.Files.{plain_file};
 ghost use Rattle.mm_rules.specs.Status.{number_of};
 ghost use Rattle.mm_tool.specs.Ending.{BreaksOff, Ends, EndsWithoutWords, AnswersWords};
@@ -11,39 +11,39 @@ ghost use Rattle.mm_tool.specs.Ending.{IsReplyOver};
 ghost use Rattle.mm_tool.specs.Answer.{outcome_of, quiet};
 ghost use Rattle.mm_tool.specs.Ending.{Stops, StopsDiff, TellsNotes};
 ghost use Rattle.mm_tool.specs.Versions.{IsDiffReplyOver};
-ghost use Rattle.mm_tool.specs.Ending.{AsksNamed, IsTextCommand, IsTextReplyOver, StopsText};
+ghost use Rattle.mm_tool.specs.Ending.{IsTextCommand, IsTextReplyOver, StopsText};
+ghost use Rattle.mm_words.specs.Words.{AsksNamed};
 ghost use Rattle.mm_tool.specs.Ending.{StaysUnshown, StopsRun, TakesWhole, TellsLine, error_line};
 ghost use Rattle.mm_tool.specs.Ending.{label_of, stop_status};
-ghost use Rattle.mm_check.specs.declared.command.Command.TheVariants.{Whole};
-ghost use Rattle.mm_check.specs.declared.question.WholeQuestion.TheVariants.{Check};
+ghost use Rattle.mm_verdict.specs.declared.question.Command.TheVariants.{Whole};
+ghost use Rattle.mm_verdict.specs.declared.question.WholeQuestion.TheVariants.{Check};
 ghost use Rattle.mm_step.specs.declared.profile.Profile.{Profile};
 ghost use Rattle.mm_tool.specs.Folder.{plain_read};
 ghost use Rattle.mm_tool.specs.declared.files.Comments.TheVariants.{LeftOut};
-ghost use Rattle.mm_tool.specs.declared.stop.Stop.TheVariants.{CannotWrite};
-ghost use Rattle.mm_tool.specs.declared.words.Request.TheVariants.{Find};
-ghost use Rattle.mm_tool.specs.Words.{Asks, AsksRun};
-ghost use Rattle.mm_tool.specs.declared.texts.Texts.{Texts};
-ghost use Rattle.mm_check.specs.declared.command.Command.{Command};
+ghost use Rattle.mm_words.specs.declared.stop.Stop.TheVariants.{CannotWrite};
+ghost use Rattle.mm_words.specs.declared.request.Request.TheVariants.{Find};
+ghost use Rattle.mm_words.specs.Words.{Asks, AsksRun};
+ghost use Rattle.mm_help.specs.declared.texts.Texts.{Texts};
+ghost use Rattle.mm_verdict.specs.declared.question.Command.{Command};
 ghost use Rattle.clap.specs.Words.{Text};
 
 use crate::answer::Answer;
-use crate::explain::explanation;
 use crate::files::{Comments, FileFault, ReadFile, read_file, read_files};
-use crate::folder::{Arguments, Folder, Resources};
-use crate::help::help_text;
+use crate::folder::{Folder, Resources};
 use crate::progress_line::{ProgressLine, watched_reply};
 use crate::search_note::all_notes;
-use crate::stop::Stop;
-use crate::texts::Texts;
 use crate::unread::{asked_label, labelled, tell_unread};
 use crate::versions::{Versions, compared_versions, read_versions};
-use crate::words::{AskedPatterns, AskedText, AskedVersions, Request, TextQuestion, request_of};
 use mm_base::File;
 use mm_check::{Command, LoneQuestion, Question, WholeQuestion, alike_files_have_one_reply};
+use mm_help::{Texts, explanation, help_text};
 use mm_rules::Status;
 use mm_step::Profile;
 use mm_text::{BYTE_LIMIT, Counted, alike_files_leave_out_the_same};
 use mm_verdict::Reply;
+use mm_words::{
+    Arguments, AskedPatterns, AskedText, AskedVersions, Request, Stop, TextQuestion, request_of,
+};
 use std::alloc::{AllocError, Global};
 use std::io::Write;
 

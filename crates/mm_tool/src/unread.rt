@@ -6,9 +6,9 @@ ghost use Rattle.mm_tool.specs.Ending.{AddsLabel, BreaksOff, TakesWhole, input_l
 ghost use Rattle.mm_tool.specs.Ending.{label_of, looks_like_file, order_line, unread_lines};
 
 use crate::say::{say_all, say_text};
-use crate::stop::Stop;
 use mm_check::Command;
 use mm_text::{Counted, WriteFault};
+use mm_words::Stop;
 use std::io::Write;
 
 const CANNOT_READ: &[u8] = b"mm: cannot read ";

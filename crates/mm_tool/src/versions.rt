@@ -13,11 +13,11 @@ ghost use Rattle.mm_tool.specs.Versions.{AreNotesOnBoth, AreTaken, IsVersionFaul
 use crate::files::{Comments, FileFault, ReadFile, read_files};
 use crate::folder::{Folder, Resources};
 use crate::notes::notes_on;
-use crate::words::AskedVersions;
 use mm_base::File;
 use mm_diff::diff_reply;
 use mm_step::Profile;
 use mm_verdict::Reply;
+use mm_words::AskedVersions;
 use std::alloc::{AllocError, Global};
 
 /// The files of two versions.

@@ -30,6 +30,8 @@ mod mm_shorten;
 mod mm_base;
 mod mm_text;
 mod mm_tool;
+mod mm_words;
+mod mm_help;
 
 use library::HostRuntime;
 

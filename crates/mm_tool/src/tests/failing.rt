@@ -4,8 +4,9 @@ ghost use Rattle.std.specs.Prelude.{◌≡◌, ⊤, None};
 ghost use Rattle.mm_text.specs.Device.{faults_of};
 ghost use Rattle.mm_tool.specs.Folder.{Unknown};
 
-use crate::folder::{ArgumentFault, Arguments, Folder, words_of};
+use crate::folder::Folder;
 use mm_text::Counted;
+use mm_words::{ArgumentFault, Arguments, words_of};
 use std::alloc::Global;
 use std::cell::Cell;
 use std::io;

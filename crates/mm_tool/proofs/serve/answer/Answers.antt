@@ -6,7 +6,8 @@ use Rattle.mm_tool.proofs.AnsweredWords.{answers_text, asks_explained, asks_run,
 use Rattle.mm_tool.proofs.AnsweredWords.{helped, stops_answer, stops_command, stops_help}
 use Rattle.mm_tool.proofs.AnsweredWords.{stops_refused, stops_text, stops_unexplained}
 use Rattle.mm_tool.proofs.AnsweredWords.{stops_versions}
-use Rattle.mm_tool.proofs.AskedWords.{named_by_words, texts_in}
+use Rattle.mm_words.proofs.AskedWords.{named_by_words}
+use Rattle.mm_words.proofs.AskedWords.{texts_in}
 use Rattle.mm_tool.proofs.serve.answer.Goals as goal
 
 pub returns-in-Help-clause-answers : goal.returns-in-Help-clause-answers

@@ -1,7 +1,7 @@
 -- The search ends as the command over the files does.
 use Rattle.std.proofs.Common.{None, refl, sym}
 use Rattle.mm_tool.proofs.AnsweredWords.{stops_command}
-use Rattle.mm_tool.proofs.AskedWords.{named_by_words}
+use Rattle.mm_words.proofs.AskedWords.{named_by_words}
 use Rattle.mm_tool.proofs.serve.find_over.Goals as goal
 
 pub find_command-command-requires : goal.find_command-command-requires

@@ -1,0 +1,3 @@
+pub mod Help
+pub mod Explained
+pub mod Pages

@@ -1,0 +1,472 @@
+-- From what `clap` ensures of a parse to what the words ask for.
+use Rattle.std.proofs.Common.{◌≡◌, ◌≢◌, false, ℕ, suc, zero, ◌+◌, ◌<◌, List, [], ◌∷◌, length, take}
+use Rattle.std.proofs.Common.{get_or, arith, Bool, Bor, map, nat_lt, cond, codes, Option}
+use Rattle.std.proofs.Common.{Some, None, option_map, Result, Ok, Err, IfOk, IfErr, IsSome, IfSome}
+use Rattle.std.proofs.Common.{inl, inr, refl, ap, subst, sym, ◌∙◌, true, unwrap_or, ◌-◌}
+use Rattle.std.proofs.Common.{is_some, ◌≤◌}
+use Rattle.std.proofs.lemmas.List.{take_more, map-append}
+use Rattle.std.specs.List.{position, position_or_len}
+use Rattle.std.specs.Str.{bytes_eq}
+use Rattle.mm_base.specs.MostBytes.{most_bytes}
+use Rattle.mm_base.proofs.Lists.{all_push}
+use Rattle.mm_text.proofs.Inclusions.OpenFiles.{position-names}
+use borrow.Author.Tests.{ltb-true}
+use Rattle.std.specs.Global.{Vec}
+use Rattle.clap.specs.Words.{App, HasKind, HasMatchesOf, IsAmong, Row, Text, all_of, fault_of}
+use Rattle.clap.specs.Words.{first_of, first_value, is_simple, is_simple_and_free, kind_of}
+use Rattle.clap.specs.Words.{matched_of, raw_values, rows_of, subcommand_name_of, subcommand_of}
+use Rattle.clap.specs.Words.{subcommand_rows_of}
+use Rattle.clap.specs.declared.error.Error.{Error}
+use Rattle.clap.specs.declared.error.kind.ErrorKind.{ErrorKind}
+use Rattle.clap.specs.declared.error.kind.ErrorKind.TheVariants.{DisplayHelp, DisplayVersion}
+use Rattle.clap.specs.declared.error.kind.ErrorKind.TheVariants.{OutOfMemory}
+use Rattle.clap.specs.declared.parser.matches.ArgMatches.{ArgMatches}
+use Rattle.clap.specs.declared.parser.matches.ArgMatches.TheViews.{out-ArgMatches}
+use Rattle.clap.specs.declared.parser.matches.Found.{Found}
+use Rattle.clap.proofs.OnLiterals.{clap_on_literals}
+use Rattle.clap.proofs.WalkLemmas.{first_value-rows, raw_values-rows}
+use Rattle.mm_verdict.specs.declared.question.Command.{Command}
+use Rattle.mm_verdict.specs.declared.question.Command.TheVariants.{File, Find, Shorter}
+use Rattle.mm_verdict.specs.declared.form.Form.{Form}
+use Rattle.mm_words.specs.Words.{AsksNamed}
+use Rattle.mm_words.specs.Words.{AsksForm, AsksRun, IsAllFault, IsGiven, name_of_form, number_among}
+use Rattle.mm_words.specs.Words.{AreMatchesOf, Asks, Commands, IsAccepted, IsFaultOfKind, IsOfKind}
+use Rattle.mm_words.specs.Words.{AreAxiomsFlags, AreMinimizeFlags, AreRefusedWords, AreShort}
+use Rattle.mm_words.specs.Words.{AsksAxioms}
+use Rattle.mm_words.specs.Words.{AsksMinimize, AsksShorterFile, AsksStatement, DoAgree}
+use Rattle.mm_words.specs.Words.{IsFilesFault, ToStandsAlone}
+use Rattle.mm_words.specs.Words.{IsNamingFault, IsWordFault, NamesFile, command_line}
+use Rattle.mm_words.specs.Words.{IsNoNumberBehind, IsNumberBehind, IsNumberFault, SaysNoNumber}
+use Rattle.mm_words.specs.Words.{SaysNumber}
+use Rattle.mm_words.specs.Words.{first_command}
+use Rattle.mm_words.specs.declared.request.Request.{Request}
+use Rattle.mm_words.specs.declared.request.Request.TheVariants.{Help, Version, Run}
+use Rattle.mm_words.specs.declared.stop.Stop.{Stop}
+use Rattle.mm_words.specs.declared.stop.Stop.TheVariants.{Usage, Memory}
+
+-- the bytes of words
+abbrev pub texts_in : List (Bor (List ℕ)) → List (List ℕ)
+texts_in words = map (λ word. word.now) words
+
+-- ==== from what `clap` ensures of a parse to what the words ask for
+
+is_free_line : is_simple_and_free command_line ≡ true
+unfolding clap_on_literals
+is_free_line = refl
+
+is_simple_line : is_simple command_line ≡ true
+unfolding clap_on_literals
+is_simple_line = refl
+
+-- The values of an argument are those of its row.
+pub values_are : (f : Found) (id : Text) (values : Option (List Text)) → values ≡ option_map raw_values (matched_of f id)
+    → unwrap_or values [] ≡ unwrap_or (all_of id (rows_of f)) []
+values_are f id values e =
+    ap (λ (o : Option (List Text)). unwrap_or o []) (e ∙ raw_values-rows f id)
+
+-- The first value of an argument is that of its row.
+pub value_is : (f : Found) (id : Text) (value : Option Text) → value ≡ first_value f id
+    → unwrap_or value [] ≡ unwrap_or (first_of id (rows_of f)) []
+value_is f id value e =
+    ap (λ (o : Option Text). unwrap_or o []) (e ∙ first_value-rows f id)
+
+-- the kind of an error is out of memory, or one of the faults of the words
+kind_among : (app : App) (words : List Text) (e : Error) → app ≡ command_line
+    → (is_simple_and_free app ≡ true → HasKind (fault_of app words) e) → HasKind (fault_of command_line words) e
+kind_among app words e is kinds =
+    let Kind : App → Type 0 = λ a. HasKind (fault_of a words) e in
+    subst Kind is (kinds (ap is_simple_and_free is ∙ is_free_line))
+
+-- A fault that isn't lack of memory is one of those of the words.
+among_faults : (words : List Text) (e : Error) (kind : ErrorKind) → HasKind (fault_of command_line words) e → kind_of e ≡ kind → kind ≢ OutOfMemory
+    → IsAmong kind (fault_of command_line words)
+among_faults words e kind (inl memory) is other = absurd (other (sym is ∙ memory))
+among_faults words e kind (inr among) is other = rw is at among
+
+-- Help or the version is the request only where the words ask for it.
+pub request_asked : (app : App) (words : List Text) (topic : Option Text) (e : Error)
+    (r : Result Request Stop) → app ≡ command_line → topic ≡ first_command words
+    → (is_simple_and_free app ≡ true → HasKind (fault_of app words) e)
+    → IfOk r (IsOfKind (kind_of e) topic) → IfOk r (Asks words)
+request_asked app words topic e (Ok (Help asked)) is first kinds h = inl (
+  among_faults words e DisplayHelp (kind_among app words e is kinds) h.0 (λ same. absurd (cc)),
+  sym first ∙ h.1,
+)
+request_asked app words topic e (Ok Version) is first kinds h =
+    inl (among_faults words e DisplayVersion (kind_among app words e is kinds) h
+    (λ same. absurd (cc)))
+request_asked app words topic e (Err fault) is first kinds h = h
+request_asked app words topic e request is first kinds h = absurd h
+
+-- Else the words are refused, or memory ran out.
+pub fault_met : (app : App) (words : List Text) (e : Error) (r : Result Request Stop) → app ≡ command_line
+    → (is_simple_and_free app ≡ true → HasKind (fault_of app words) e)
+    → IfErr r (IsFaultOfKind (kind_of e)) → IfErr r (IsWordFault words)
+fault_met app words e (Ok request) is kinds h = h
+fault_met app words e (Err (Usage text)) is kinds h =
+    inl (kind_of e, among_faults words e (kind_of e) (kind_among app words e is kinds) refl h.0, h.1, h.2)
+fault_met app words e (Err Memory) is kinds h = tt
+fault_met app words e (Err other) is kinds h = absurd h
+
+abbrev pair_in : {X : Type 0} → (X → Text) → (X → List Row) → Option X → Option (Text × List Row)
+pair_in f g o = option_map {U = Text × List Row} (λ b. (f b, g b)) o
+
+-- A name and rows that are known apart are known together.
+pair_known : {X : Type 0} (f : X → Text) (g : X → List Row) (o : Option X) (name : Text) (rows : List Row)
+    → option_map f o ≡ Some name → option_map (λ (p : Text × List Row). p.1) (pair_in f g o) ≡ Some rows
+    → pair_in f g o ≡ Some (name, rows)
+pair_known f g None name rows e h = absurd (cc)
+pair_known f g (Some b) name rows e h = cc
+
+-- the name alone
+first_only : {X : Type 0} (f : X → Text) (g : X → List Row) (o : Option X) (name : Text) (rows : List Row)
+    → pair_in f g o ≡ Some (name, rows) → option_map f o ≡ Some name
+first_only f g None name rows e = absurd (cc)
+first_only f g (Some b) name rows e = ap (option_map {U = Text} (λ (p : Text × List Row). p.0)) e
+
+-- Words without a fault are accepted.
+pub is_accepted : (app : App) (words : List Text) → app ≡ command_line → (is_simple_and_free app ≡ true → fault_of app words ≡ []) → IsAccepted words
+is_accepted app words is free =
+    rw is at (free (ap is_simple_and_free is ∙ is_free_line))
+
+rows_met : (app : App) (words : List Text) (m : ArgMatches) → app ≡ command_line → HasMatchesOf app words m
+    → subcommand_rows_of m ≡ subcommand_of command_line words
+rows_met app words m is matched = rw is at ((matched (ap is_simple is ∙ is_simple_line)).1)
+
+-- What the parse met are the matches of the words.
+pub matches_met : (app : App) (words : List Text) (m : ArgMatches) → app ≡ command_line
+    → (is_simple_and_free app ≡ true → fault_of app words ≡ []) → HasMatchesOf app words m → AreMatchesOf words m
+matches_met app words m is free matched = (is_accepted app words is free, rows_met app words m is matched)
+
+-- The command in the matches is that of the words, with its values.
+pub commands_met : (words : List Text) (m : ArgMatches) (name : Text) (rows : List Row) → AreMatchesOf words m
+    → subcommand_name_of m ≡ Some name → option_map (λ (p : Text × List Row). p.1) (subcommand_rows_of m) ≡ Some rows
+    → Commands words name rows
+commands_met words m name rows met same values =
+    (met.0, sym met.1 ∙ pair_known _ _ (out-ArgMatches m).subcommand name rows same values)
+
+-- A command that isn't in the matches isn't that of the words.
+pub not_commanded : (words : List Text) (m : ArgMatches) (name : Text) (rows : List Row) → AreMatchesOf words m
+    → (subcommand_name_of m ≡ Some name → ⊥) → Commands words name rows → ⊥
+not_commanded words m name rows met other asked =
+    other (first_only _ _ (out-ArgMatches m).subcommand name rows (met.1 ∙ asked.1))
+
+-- No matches are there where none were found.
+pub none_there : {X : Type 0} (o : Option X) → o ≡ None → IsSome o → ⊥
+none_there None is there = absurd (cc)
+none_there (Some x) is there = absurd (cc)
+
+-- Where matches were found, there are rows.
+pub rows_there : {M X : Type 0} (rows_in : M → X) (o : Option M) (met : Option X) → IsSome o → IfSome o (λ m. met ≡ Some (rows_in m))
+    → (rows : X) × (met ≡ Some rows)
+rows_there rows_in None met there h = absurd (cc)
+rows_there rows_in (Some m) met there h = (rows_in m, h)
+
+-- A choice that found something found it where its test passed.
+chosen : (b : Bool) (i number : ℕ) → cond b (Some i) None ≡ Some number
+    → (b ≡ true) × (i ≡ number)
+chosen true i number e = (refl, cc)
+chosen false i number e = absurd (cc)
+
+-- A number that is found among names is that of one of them.
+pub number_found : (names : List Text) (name : Text) (number : ℕ)
+    → number_among names name ≡ Some number → number < length names
+number_found names name number found =
+    let index : ℕ = position_or_len (λ other. bytes_eq other name) names in
+    let (before, is) = chosen (nat_lt index (length names)) index number found in
+    rw is at (ltb-true index (length names) before)
+
+-- The file about which the words ask is one of those that they name.
+pub named_by_words : (words : List Text) (command : Command) (names : List Text)
+    → AsksRun words command names → AsksNamed command names
+named_by_words words (File form number) names (rows, commands, file, all, found, same) =
+    number_found names (unwrap_or (first_of (codes "LABEL") rows) []) number found
+named_by_words words (Shorter number duplicates) names (behind, asked, (name, is, found)) =
+    number_found names name number found
+named_by_words words (Find patterns whole hypotheses) names (inl (asked, short)) = short
+named_by_words words (Find patterns whole hypotheses) names (inr (none, asked)) = rw none tt
+named_by_words words command names asked = tt
+
+-- The index of a name among names is that among their texts.
+pub number_named : (items given : List (Bor Text)) (name : Text) (found : Option ℕ)
+    → given ≡ items → found ≡ position (λ other. bytes_eq other.now name) given
+    → number_among (map (λ n. n.now) items) name ≡ found
+number_named items given name found same is =
+    sym (position-names (λ (n : Bor Text). n.now) (λ other. bytes_eq other name) items)
+    ∙ ap (position (λ (n : Bor Text). bytes_eq n.now name)) (sym same) ∙ sym is
+
+module _ (rows : List Row) (form : Form) (whole given : Bool) (name : Text)
+    (file : IsGiven (codes "file") rows whole) (all : IsGiven (codes "all") rows given)
+    (is_given : given ≡ true) (word : name ≡ unwrap_or (first_of (codes "LABEL") rows) []) where
+  -- The words ask for all proofs of a file by the request for them.
+  pub all_asked : (names : Vec (Bor Text)) (r : Result Request Stop)
+      → map (λ n. n.now) names.items ≡ unwrap_or (all_of (codes "FILES") rows) []
+      → IfOk r (λ request. (number : ℕ) × (request ≡ Run (File form number) names) × (whole ≡ false)
+      × (number_among (map (λ n. n.now) names.items) name ≡ Some number))
+      → IfOk r (λ request. (words : List Text) → Commands words (name_of_form form) rows
+      → Asks words request)
+  all_asked names (Ok request) files (number, is, alone, found) = λ words commands.
+      rw is (rows, commands, rw alone at file, rw is_given at all, rw word at found, sym files)
+  all_asked names (Err stop) files h = tt
+
+  -- Where there is no such request, the words are refused.
+  pub all_refused : (names : List Text) (r : Result Request Stop)
+      → names ≡ unwrap_or (all_of (codes "FILES") rows) [] → IfErr r (IsAllFault whole name names)
+      → IfErr r (λ stop. (words : List Text) → Commands words (name_of_form form) rows
+      → IsWordFault words stop)
+  all_refused names (Ok request) files h = tt
+  all_refused names (Err (Usage text)) files (inl both) = λ words commands.
+      inr (inr (inl (form, rows, commands, rw is_given at all, inl (rw both at file))))
+  all_refused names (Err (Usage text)) files (inr none) = λ words commands.
+      inr (inr (inl (form, rows, commands, rw is_given at all, inr (rw (word, files) at none))))
+  all_refused names (Err Memory) files h = λ words commands. tt
+  all_refused names (Err other) files h = absurd h
+
+-- They ask for the proof of a theorem in a form, or for its file, where `--all` isn't given.
+pub form_asked : (words : List Text) (form : Form) (rows : List Row) (whole given : Bool)
+    (label : Text) (names : List Text) → Commands words (name_of_form form) rows
+    → IsGiven (codes "file") rows whole → IsGiven (codes "all") rows given → given ≡ false
+    → label ≡ unwrap_or (first_of (codes "LABEL") rows) []
+    → names ≡ unwrap_or (all_of (codes "FILES") rows) []
+    → AsksForm (name_of_form form) words label whole names
+form_asked words form rows whole given label names commands file all not_given word files =
+    (rows, commands, sym word, file, rw not_given at all, sym files)
+
+-- ---- `axioms`
+
+-- what isn't there is none
+none_of : {X : Type 0} (o : Option X) → is_some o ≡ false → o ≡ None
+none_of None h = refl
+none_of (Some x) h = absurd (cc)
+
+is_some_map : {X Y : Type 0} (f : X → Y) (o : Option X) → is_some (option_map f o) ≡ is_some o
+is_some_map f None = refl
+is_some_map f (Some x) = refl
+
+-- They ask why a theorem rests on an assertion, where the label of one stands behind `--to`.
+pub chain_asked : (words names : List Text) (label : Text) (essential : Bool)
+    (to : Option (Bor Text)) (other : Bor Text) (given : Text) → to ≡ Some other
+    → given ≡ other.now → ToStandsAlone false essential (is_some to)
+    → AsksAxioms words false essential (option_map (λ o. o.now) to) (label ∷ names) → names ≢ []
+    → AsksAxioms words false false (Some given) (label ∷ names) × (names ≢ [])
+chain_asked words names label essential None other given is same alone asked some = absurd (cc)
+chain_asked words names label essential (Some o) other given is same alone asked some =
+    let here : o ≡ other = cc in
+    (rw same (rw (alone.1, here) at asked), some)
+
+-- Else they ask what it rests on.
+pub report_asked : (words names : List Text) (label : Text) (essential : Bool)
+    (to : Option (Bor Text)) → to ≡ None
+    → AsksAxioms words false essential (option_map (λ o. o.now) to) (label ∷ names) → names ≢ []
+    → AsksAxioms words false essential None (label ∷ names) × (names ≢ [])
+report_asked words names label essential None is asked some = (asked, some)
+report_asked words names label essential (Some o) is asked some = absurd (cc)
+
+module _ (rows : List Row) (all essential : Bool) (to : Option (Bor Text)) (behind : List Text)
+    (flags : AreAxiomsFlags rows all essential (option_map (λ o. o.now) to))
+    (files : behind ≡ unwrap_or (all_of (codes "FILES") rows) []) where
+  -- The words ask by `axioms`, with these flags.
+  by_axioms : (words : List Text) → Commands words (codes "axioms") rows
+      → AsksAxioms words all essential (option_map (λ o. o.now) to) behind
+  by_axioms words commands = (rows, commands, flags, sym files)
+
+  -- They ask what each theorem rests on, where `--all` is given.
+  pub all_axioms_asked : (has : Bool) → has ≡ is_some to → ToStandsAlone all essential has
+      → all ≡ true → (words : List Text) → Commands words (codes "axioms") rows
+      → AsksAxioms words true essential None behind
+  all_axioms_asked true same alone given words commands = absurd (cc)
+  all_axioms_asked false same alone given words commands =
+      let none : to ≡ None = none_of to (sym same) in
+      rw (given, none) at by_axioms words commands
+
+  -- Flags that exclude each other are refused.
+  pub axioms_refused : (has : Bool) → has ≡ is_some to → ¬ (ToStandsAlone all essential has)
+      → (words : List Text) → Commands words (codes "axioms") rows → AreRefusedWords words
+  axioms_refused has same several words commands = inr (inr (inr (inl (
+    all,
+    essential,
+    option_map (λ o. o.now) to,
+    behind,
+    by_axioms words commands,
+    inl (rw (is_some_map (λ (o : Bor Text). o.now) to, ← same) several),
+  ))))
+
+  -- So are words that name no file behind the label.
+  pub label_refused : all ≡ false → (parts : List Text) (stop : Stop) → parts ≡ behind
+      → IsFilesFault parts stop → (words : List Text) → Commands words (codes "axioms") rows
+      → IsWordFault words stop
+  label_refused not_all parts (Usage text) same few words commands = inr (inr (inr (inl (
+    all,
+    essential,
+    option_map (λ o. o.now) to,
+    behind,
+    by_axioms words commands,
+    inr (not_all, rw same at few),
+  ))))
+  label_refused not_all parts Memory same few words commands = tt
+  label_refused not_all parts other same few words commands = absurd few
+
+  -- They ask about the theorem with a label, where `--all` isn't given.
+  pub label_asked : all ≡ false → (parts : List Text) (label : Text) (names : List Text)
+      → parts ≡ behind → parts ≡ label ∷ names → (words : List Text)
+      → Commands words (codes "axioms") rows
+      → AsksAxioms words false essential (option_map (λ o. o.now) to) (label ∷ names)
+  label_asked not_all parts label names same is words commands =
+      rw (not_all, sym same ∙ is) at by_axioms words commands
+
+-- ---- `statement` and `find`
+
+-- They ask about the statement with a label, where `--all` isn't given.
+pub statement_asked : (words : List Text) (rows : List Row) (given : Bool)
+    (found parts : List Text) (label : Text) (names : List Text)
+    → Commands words (codes "statement") rows → IsGiven (codes "all") rows given → given ≡ false
+    → found ≡ unwrap_or (all_of (codes "FILES") rows) [] → parts ≡ found
+    → (parts ≡ label ∷ names) × (names ≢ [])
+    → AsksStatement words false (label ∷ names) × (names ≢ [])
+statement_asked words rows given found parts label names commands all not_given files same
+    (is, some) =
+    ((rows, commands, rw not_given at all, sym (same ∙ files) ∙ is), some)
+
+-- Where no file follows the label, the words are refused.
+pub statement_refused : (rows : List Row) (given : Bool) (found parts : List Text) (stop : Stop)
+    → IsGiven (codes "all") rows given → given ≡ false
+    → found ≡ unwrap_or (all_of (codes "FILES") rows) [] → parts ≡ found → IsFilesFault parts stop
+    → (words : List Text) → Commands words (codes "statement") rows → IsWordFault words stop
+statement_refused rows given found parts (Usage text) all not_given files same few =
+    λ words commands. inr (inr (inr (inr (inr (inr (inl (
+      found,
+      (rows, commands, rw not_given at all, sym files),
+      rw same at few,
+    )))))))
+statement_refused rows given found parts Memory all not_given files same few = λ words commands. tt
+statement_refused rows given found parts other all not_given files same few = absurd few
+
+-- One pattern more is short.
+pub short_more : (patterns : List (Bor Text)) (i : ℕ) (d : Bor Text) → i < length patterns
+    → AreShort (map (λ pattern. pattern.now) (take i patterns))
+    → length (get_or patterns i d).now ≤ most_bytes
+    → AreShort (map (λ pattern. pattern.now) (take (i + 1) patterns))
+short_more patterns i d less short own =
+    rw (
+      take_more patterns i d less,
+      map-append (λ (pattern : Bor Text). pattern.now) (take i patterns) (get_or patterns i d ∷ []),
+    ) (all_push (λ (pattern : Text). length pattern ≤ most_bytes)
+    (map (λ (pattern : Bor Text). pattern.now) (take i patterns)) (get_or patterns i d).now short own)
+
+-- Where all are short, so is each.
+pub short_at : (patterns : List (Bor Text)) (i : ℕ) (d : Bor Text) → i < length patterns
+    → AreShort (map (λ pattern. pattern.now) patterns)
+    → length (get_or patterns i d).now ≤ most_bytes
+short_at [] i d less short = absurd (omega arith)
+short_at (p ∷ ps) zero d less short = short.0
+short_at (p ∷ ps) (suc i) d less short = short_at ps i d (omega arith) short.1
+
+-- ---- `minimize`
+
+module _ (rows : List Row) (all list duplicates : Bool) (behind : List Text)
+    (flags : AreMinimizeFlags rows all list duplicates)
+    (files : behind ≡ unwrap_or (all_of (codes "FILES") rows) []) where
+  -- The words ask by `minimize`, with these flags.
+  by_minimize : (words : List Text) → Commands words (codes "minimize") rows
+      → AsksMinimize words all list duplicates behind
+  by_minimize words commands = (rows, commands, flags, sym files)
+
+  -- They ask to list the proofs that become shorter, where `--list` is given.
+  pub list_asked : DoAgree all list duplicates → list ≡ true → (words : List Text)
+      → Commands words (codes "minimize") rows → AsksMinimize words false true false behind
+  list_asked agree given words commands =
+      let alone : (all ≡ false) × (duplicates ≡ false) = rw given at agree in
+      rw (alone.0, given, alone.1) at by_minimize words commands
+
+  -- They ask for a file with shorter proofs, where `--all` is given.
+  pub file_asked : list ≡ false → all ≡ true → (parts : List Text) (number : ℕ)
+      (names : List Text) → parts ≡ behind → NamesFile parts number names → (words : List Text)
+      → Commands words (codes "minimize") rows → AsksShorterFile words number duplicates names
+  file_asked not_list given parts number names same named words commands =
+      (behind, rw (given, not_list) at by_minimize words commands, rw same at named)
+
+  -- Flags that don't agree are refused.
+  pub flags_refused : ¬ (DoAgree all list duplicates) → (words : List Text)
+      → Commands words (codes "minimize") rows → AreRefusedWords words
+  flags_refused differ words commands = inr (inr (inr (inr (inr (inl (
+    all,
+    list,
+    duplicates,
+    behind,
+    by_minimize words commands,
+    inl differ,
+  ))))))
+
+  -- So are words that name no file behind the label.
+  pub few_refused : list ≡ false → (parts : List Text) (stop : Stop) → parts ≡ behind
+      → IsFilesFault parts stop → (words : List Text)
+      → Commands words (codes "minimize") rows → IsWordFault words stop
+  few_refused not_list parts (Usage text) same few words commands = inr (inr (inr (inr (inr (inl (
+    all,
+    list,
+    duplicates,
+    behind,
+    by_minimize words commands,
+    inr (inl (not_list, rw same at few)),
+  ))))))
+  few_refused not_list parts Memory same few words commands = tt
+  few_refused not_list parts other same few words commands = absurd few
+
+  -- And so is the name of a file that is none of the others.
+  pub name_refused : all ≡ true → (parts : List Text) (stop : Stop) → parts ≡ behind
+      → IsNamingFault parts stop → (words : List Text)
+      → Commands words (codes "minimize") rows → IsWordFault words stop
+  name_refused given parts (Usage text) same none words commands = inr (inr (inr (inr (inr (inl (
+    all,
+    list,
+    duplicates,
+    behind,
+    by_minimize words commands,
+    inr (inr (given, rw same at none)),
+  ))))))
+  name_refused given parts Memory same none words commands = tt
+  name_refused given parts other same none words commands = absurd none
+
+-- ---- `lemmas`
+
+-- The usual number is asked for where the option isn't given.
+pub usual_number : (word : Option (Bor Text)) (given : Option Text) (usual : ℕ)
+    → option_map (λ w. w.now) word ≡ given → word ≡ None → IsNumberBehind given usual usual
+usual_number word given usual same none = rw (← same, none) refl
+
+-- Else the one that the word behind it says is.
+pub said_number : (word : Option (Bor Text)) (given : Option Text) (said : Bor Text) (usual n : ℕ)
+    → option_map (λ w. w.now) word ≡ given → word ≡ Some said → SaysNumber said.now n
+    → IsNumberBehind given usual n
+said_number word given said usual n same some says = rw (← same, some) says
+
+-- The word behind it may say none.
+pub said_none : (word : Option (Bor Text)) (given : Option Text) (said : Bor Text)
+    → option_map (λ w. w.now) word ≡ given → word ≡ Some said → SaysNoNumber said.now
+    → IsNoNumberBehind given
+said_none word given said same some none = rw (← same, some) none
+
+-- Without `--list` the words are refused.
+pub unlisted_refused : (rows : List Row) (listed : Bool) → IsGiven (codes "list") rows listed
+    → listed ≡ false → (words : List Text) → Commands words (codes "lemmas") rows
+    → AreRefusedWords words
+unlisted_refused rows listed list not words commands =
+    inr (inr (inr (inr (inr (inr (inr (inr (inl (rows, commands, inl (rw not at list))))))))))
+
+-- So they are where the word behind `--most` says no number.
+pub most_refused : (rows : List Row) (stop : Stop)
+    → IsNumberFault (first_of (codes "most") rows) stop → (words : List Text)
+    → Commands words (codes "lemmas") rows → IsWordFault words stop
+most_refused rows (Usage text) none words commands =
+    inr (inr (inr (inr (inr (inr (inr (inr (inl (rows, commands, inr (inl none))))))))))
+most_refused rows Memory none words commands = tt
+most_refused rows other none words commands = absurd none
+
+-- And where the one behind `--least` does.
+pub least_refused : (rows : List Row) (stop : Stop)
+    → IsNumberFault (first_of (codes "least") rows) stop → (words : List Text)
+    → Commands words (codes "lemmas") rows → IsWordFault words stop
+least_refused rows (Usage text) none words commands =
+    inr (inr (inr (inr (inr (inr (inr (inr (inl (rows, commands, inr (inr none))))))))))
+least_refused rows Memory none words commands = tt
+least_refused rows other none words commands = absurd none

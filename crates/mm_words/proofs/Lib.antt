@@ -1,0 +1,2 @@
+pub mod AskedWords
+pub mod NamedSides

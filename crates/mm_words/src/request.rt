@@ -1,0 +1,60 @@
+//! What the program is asked: what `request_of` makes of its words.
+
+/// What is asked about a proof's text and a theorem.
+#[derive(Clone, Copy, PartialEq, Eq, Debug)]
+pub enum TextQuestion {
+    /// Whether the text is the same proof as the theorem's own.
+    Same,
+    /// Whether it is a proof of the theorem.
+    Try,
+}
+
+/// A question about the text in the file `proof` and the theorem with a label, in the database in
+/// the files with these names.
+#[derive(Drop)]
+pub struct AskedText<'a> {
+    pub question: TextQuestion,
+    pub label: &'a str,
+    pub proof: &'a str,
+    pub names: Vec<&'a str>,
+}
+
+/// A question for the assertions that have these patterns, in the database in the files with these
+/// names.
+#[derive(Drop)]
+pub struct AskedPatterns<'a> {
+    pub patterns: Vec<&'a str>,
+    pub whole: bool,
+    pub hypotheses: bool,
+    pub names: Vec<&'a str>,
+}
+
+/// A question what changed from the database in the files with the names `old` to the one in those
+/// with the names `new`.
+#[derive(Clone, Copy)]
+pub struct AskedVersions<'a> {
+    pub old: &'a [&'a str],
+    pub new: &'a [&'a str],
+}
+
+/// What the program is asked.
+#[derive(Drop)]
+pub enum Request<'a> {
+    /// To print the page of the command with this name, or without one the whole help.
+    Help(Option<&'a str>),
+    /// To print the version.
+    Version,
+    /// To explain the rule that these words name, or without any to list all codes.
+    Explain(Vec<&'a str>),
+    /// To run this command over the database in the files with these names, the top file first.
+    Run {
+        command: mm_verdict::Command<'a>,
+        names: Vec<&'a str>,
+    },
+    /// To list the assertions that have these patterns.
+    Find(AskedPatterns<'a>),
+    /// To read a proof's text, and to say what it is to a theorem.
+    Text(AskedText<'a>),
+    /// To tell what changed between two versions of a database.
+    Diff(AskedVersions<'a>),
+}
