@@ -342,7 +342,7 @@ def stars(folder, size):
                 for at in range(1, size))
     write(folder, "f.mm", HEAD, "a0 $a |- x $.\n",
           "${ e $e |- x $. f $e |- y $. mp $a |- x $. $}\n", theorems)
-    return asked(0, "check f.mm", "axioms --all f.mm", "users --all a0 f.mm")
+    return asked(0, "check f.mm", "axioms --all f.mm", "users --all a0 f.mm", "lemmas --list f.mm")
 
 
 def mathboxes(folder, size):

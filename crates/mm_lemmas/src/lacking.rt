@@ -9,11 +9,13 @@ ghost use Rattle.mm_lemmas.specs.Told.{ListsLemmas};
 use crate::assertions::Library;
 use crate::budget::Budget;
 use crate::lemma::{Lemma, Wanted};
-use crate::listing::{Words, listed};
+use crate::listing::listed;
+use crate::names::Words;
 use crate::remarks::{Remark, Remarks, remarks_of};
 use crate::rows::next_number;
 use crate::search::{LEMMA_STEPS, Proved, Search};
 use mm_frame::{Book, LabelId, LabelKind, Sym};
+use mm_proof::StepsReader;
 use mm_rules::AskFault;
 use mm_verdict::{Checked, Rereading, Watch};
 use std::alloc::{AllocError, Global};
@@ -47,8 +49,6 @@ struct FoundLemmas {
 const LABEL_BYTES: u64 = 6;
 
 const COMMENT_BYTES: u64 = 58;
-
-const SYMBOL_BYTES: u64 = 3;
 
 // The type code of the variable of a `$f`.
 fn floating_code(book: &Book, id: LabelId) -> Option<Sym> {
@@ -134,21 +134,22 @@ fn proved_at(remarks: &[Remark], id: LabelId) -> Option<Proved> {
 }
 
 // Takes the theorems with complete proofs into a search.
-fn take_each(
+fn take_each<'a>(
     search: &mut Search,
     alloc: Global,
-    checked: &Checked,
+    checked: &Checked<'a>,
     remarks: &[Remark],
 ) -> Result<(), AskFault>
     ensures memory { IfErr result (λ fault. fault ≡ Memory) }
 {
     let mut reading = Rereading::new(alloc, checked)?;
+    let mut steps = StepsReader::new(alloc);
     for _ in 0..checked.proofs() {
         let Some(id) = reading.next_theorem(checked)? else {
             return Ok(());
         };
         if let Some(proved) = proved_at(remarks, id) {
-            let theorem = checked.theorem_at(alloc, &reading.statement, id)?;
+            let theorem = checked.theorem_at(&mut steps, alloc, &reading.statement, id)?;
             search.take(&checked.book, proved, &theorem.steps)?;
         }
     }
@@ -174,14 +175,7 @@ fn found<W: Watch>(
     };
     let library = library_of(alloc, &checked.book, &remarks.remarks, provable)?;
     let mut search = Search::new(library, remarks.first_mathbox);
-    let outcome = search_for(
-        &mut search,
-        alloc,
-        checked,
-        &remarks.remarks,
-        selection,
-        watch,
-    );
+    let outcome = search_for(&mut search, alloc, checked, remarks, selection, watch);
     drop(search);
     outcome
 }
@@ -191,29 +185,38 @@ fn search_for<W: Watch>(
     search: &mut Search,
     alloc: Global,
     checked: &Checked,
-    remarks: &[Remark],
+    remarks: &Remarks,
     selection: Selection,
     watch: &mut W,
 ) -> Result<FoundLemmas, AskFault>
     ensures memory { IfErr result (λ fault. fault ≡ Memory) }
 {
-    take_each(search, alloc, checked, remarks)?;
+    take_each(search, alloc, checked, &remarks.remarks)?;
     let mut budget = Budget::new(LEMMA_STEPS);
-    let lemmas = search.lemmas(wanted_by(selection), &mut budget, watch)?;
+    let wanted = wanted_by(selection, words_of(remarks));
+    let lemmas = search.lemmas(wanted, &mut budget, watch)?;
     Ok(FoundLemmas {
         lemmas,
         is_cut: budget.is_used_up(),
     })
 }
 
+// By what the lemmas of a database are written of which this is said.
+fn words_of<'w, 'a>(remarks: &'w Remarks<'a>) -> Words<'w, 'a> {
+    Words {
+        names: &remarks.names,
+        variables: &remarks.variables,
+    }
+}
+
 // What is wanted of the lemmas that are asked for.
-fn wanted_by(selection: Selection) -> Wanted {
+fn wanted_by<'w, 'a>(selection: Selection, words: Words<'w, 'a>) -> Wanted<'w, 'a> {
     Wanted {
         most: selection.most,
         least: selection.least as u64,
         label: LABEL_BYTES,
         comment: COMMENT_BYTES,
-        symbol: SYMBOL_BYTES,
+        words,
     }
 }
 
@@ -233,14 +236,10 @@ pub fn lemma_list<W: Watch>(
 {
     let remarks = remarks_of(alloc, checked)?;
     let found = found(alloc, checked, &remarks, selection, watch)?;
-    let words = Words {
-        names: &remarks.names,
-        variables: &remarks.variables,
-    };
     let text = listed(
         alloc,
         checked,
-        words,
+        words_of(&remarks),
         &found.lemmas,
         selection.most,
         selection.least,

@@ -1,5 +1,6 @@
 //! Lemmas that a library lacks, as they are told.
 
+use crate::names::Words;
 use mm_frame::{LabelId, Piece, Sym};
 
 /// What a step of a lemma's proof is by.
@@ -48,17 +49,17 @@ pub struct Lemma {
     pub mathbox: u32,
 }
 
-/// What is asked of the lemmas that are found, and about how long their texts are.
-#[derive(Clone, Copy, PartialEq, Eq, Debug)]
-pub struct Wanted {
+/// What is asked of the lemmas that are found, and by what their texts are measured.
+#[derive(Clone, Copy)]
+pub(crate) struct Wanted<'w, 'a> {
     /// No more lemmas are found.
-    pub most: usize,
+    pub(crate) most: usize,
     /// Each of them saves as many bytes or more.
-    pub least: u64,
+    pub(crate) least: u64,
     /// How many bytes their labels have.
-    pub label: u64,
+    pub(crate) label: u64,
     /// How many bytes a comment has.
-    pub comment: u64,
-    /// How many bytes a symbol has in the mean, with the space before it.
-    pub symbol: u64,
+    pub(crate) comment: u64,
+    /// By what they are written.
+    pub(crate) words: Words<'w, 'a>,
 }

@@ -28,13 +28,10 @@ mod rows;
 mod search;
 mod size;
 mod terms;
+mod text_size;
 mod told;
 mod trial;
 mod unify;
 mod wording;
 
-pub use assertions::{Library, Standing};
-pub use budget::Budget;
 pub use lacking::{LemmaList, Selection, lemma_list};
-pub use lemma::{Lemma, Part, Wanted};
-pub use search::{LEMMA_STEPS, Proved, Search};

@@ -10,7 +10,7 @@ ghost use Rattle.mm_lemmas.specs.Mirror.Listing.{AreNamesOf, AreSums, IsListedSo
 ghost use Rattle.mm_lemmas.specs.Mirror.Listing.{PutsLine, line_of, plain_name, plain_known};
 
 use crate::lemma::Lemma;
-use crate::names::Names;
+use crate::names::Words;
 use crate::told::{Gain, Name, Source, Told, source_of, told_of};
 use mm_find::{push_premises, push_words};
 use mm_rules::{push_decimal, push_number, push_word};
@@ -133,13 +133,6 @@ impl Listing {
         self.sums = self.sums.with(told.gain);
         Ok(())
     }
-}
-
-/// By what lemmas are written: the names of symbols, and the variables that lemmas may have.
-#[derive(Clone, Copy)]
-pub(crate) struct Words<'w, 'a> {
-    pub(crate) names: &'w [Option<&'a [u8]>],
-    pub(crate) variables: &'w Names,
 }
 
 /// A lemma as it is told behind so many lines, where lemmas are told in these, if it saves so many

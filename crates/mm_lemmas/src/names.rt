@@ -112,3 +112,10 @@ impl Names {
         }
     }
 }
+
+/// By what lemmas are written: the names of symbols, and the variables that lemmas may have.
+#[derive(Clone, Copy)]
+pub(crate) struct Words<'w, 'a> {
+    pub(crate) names: &'w [Option<&'a [u8]>],
+    pub(crate) variables: &'w Names,
+}

@@ -12,6 +12,7 @@ use crate::rewriting::{Change, own_proof, rewritten};
 use crate::rows::next_number;
 use crate::search::Search;
 use crate::size::Names;
+use crate::text_size::text_bytes;
 use crate::wording::{worded, worded_each};
 use mm_frame::Piece;
 use std::alloc::{AllocError, Global};
@@ -160,20 +161,6 @@ fn trial_of(digram: Digram, pattern: Pattern, wording: Wording, savings: Savings
     }
 }
 
-// How many symbols word a lemma.
-fn symbols_of(wording: &Wording) -> u64 {
-    symbols_in(&wording.hypotheses).saturating_add(wording.conclusion.len() as u64)
-}
-
-// How many symbols some expressions have.
-fn symbols_in(expressions: &[Vec<Piece>]) -> u64 {
-    let mut symbols = 0u64;
-    for expression in expressions {
-        symbols = symbols.saturating_add(expression.len() as u64);
-    }
-    symbols
-}
-
 // The numbers of the mandatory hypotheses of a lemma: of its variables, and of its `$e`.
 fn own_names(
     alloc: Global,
@@ -186,34 +173,6 @@ fn own_names(
         own.push(names.of_own(next_number(first.saturating_add(index))))?;
     }
     Ok(own)
-}
-
-// The bytes of a lemma's text, besides its symbols, its label, its comment and its proof.
-const STATEMENT_BYTES: u64 = 32;
-
-// The bytes of each of its `$e`, besides its symbols; and those of a `$d` for a pair.
-const ESSENTIAL_BYTES: u64 = 28;
-
-const PAIR_BYTES: u64 = 16;
-
-// The bytes of a block.
-const BLOCK_BYTES: u64 = 12;
-
-// The bytes of a lemma's text, besides its symbols and its proof.
-fn frame_bytes(pattern: &Pattern, wanted: Wanted) -> u64 {
-    let essentials = pattern.essentials.len() as u64;
-    let pairs = pattern.pairs.len() as u64;
-    let block = if essentials == 0 && pairs == 0 {
-        0
-    } else {
-        BLOCK_BYTES
-    };
-    STATEMENT_BYTES
-        .saturating_add(wanted.label)
-        .saturating_add(wanted.comment)
-        .saturating_add(essentials.saturating_mul(ESSENTIAL_BYTES))
-        .saturating_add(pairs.saturating_mul(PAIR_BYTES))
-        .saturating_add(block)
 }
 
 impl Search {
@@ -253,8 +212,8 @@ impl Search {
         let Some(wording) = wording_of(&self.library, &pattern)? else {
             return Ok(None);
         };
-        let symbols = symbols_of(&wording);
-        match self.savings(digram, &pattern, places, symbols, wanted, budget) {
+        let text = text_bytes(&pattern, &wording, wanted)?;
+        match self.savings(digram, &pattern, places, text, budget) {
             Ok(Some(savings)) => Ok(Some(trial_of(digram, pattern, wording, savings))),
             Ok(None) => {
                 drop(pattern);
@@ -269,14 +228,14 @@ impl Search {
         }
     }
 
-    // What the lemma with this pattern saves at these places, if anything; so many symbols word it.
+    // What the lemma with this pattern saves at these places, if anything; its text has so many
+    // bytes besides its proof.
     fn savings(
         &mut self,
         digram: Digram,
         pattern: &Pattern,
         places: &[Place],
-        symbols: u64,
-        wanted: Wanted,
+        text: u64,
         budget: &mut Budget,
     ) -> Result<Option<Savings>, AllocError>
         ensures { budget.new ≤ budget.old }
@@ -286,7 +245,7 @@ impl Search {
             name: next_number(self.library.named.len().saturating_sub(1)),
             pattern,
         };
-        let text = self.text_bytes(change, symbols, wanted, budget)?;
+        let text = text.saturating_add(self.proof_bytes(change, budget)?);
         let changed = self.try_each(change, places, budget)?;
         let saved = saved_in(&changed).saturating_sub(text);
         match self.spot(&changed) {
@@ -300,25 +259,6 @@ impl Search {
                 Ok(None)
             }
         }
-    }
-
-    // The bytes of a lemma's text, whose statements have so many symbols.
-    fn text_bytes(
-        &mut self,
-        change: Change,
-        symbols: u64,
-        wanted: Wanted,
-        budget: &mut Budget,
-    ) -> Result<u64, AllocError>
-        ensures { budget.new ≤ budget.old }
-    {
-        let proof = self.proof_bytes(change, budget)?;
-        Ok(
-            symbols
-                .saturating_mul(wanted.symbol)
-                .saturating_add(frame_bytes(change.pattern, wanted))
-                .saturating_add(proof),
-        )
     }
 
     // The places of a digram at which its lemma may be used, in order, each once.

@@ -11,6 +11,7 @@ use crate::search::Search;
 use crate::shortening::{Shortening, Shorter};
 use mm_base::Statement;
 use mm_frame::LabelId;
+use mm_proof::StepsReader;
 use mm_render::{OwnProof, own_small_proof};
 use mm_rules::AskFault;
 use std::alloc::Global;
@@ -27,7 +28,7 @@ pub struct Compared {
 pub(crate) fn shorter_proof<'a, S: Search>(
     alloc: Global,
     shortening: &Shortening<'_, 'a>,
-    statement: &Statement,
+    statement: &Statement<'a>,
     id: LabelId,
     search: &mut S,
 ) -> Result<Option<Compared>, AskFault>
@@ -40,7 +41,8 @@ pub(crate) fn shorter_proof<'a, S: Search>(
     ensures whole { S.is_whole search.old → OnOk result (S.is_whole search.new) }
 {
     let checked = shortening.checked;
-    let theorem = checked.theorem_at(alloc, statement, id)?;
+    let mut steps = StepsReader::new(alloc);
+    let theorem = checked.theorem_at(&mut steps, alloc, statement, id)?;
     let own = own_small_proof(alloc, checked, &theorem)?;
     let found = shortening.found(alloc, &theorem, &own, search)?;
     match found {

@@ -219,11 +219,13 @@ impl<'a> Checked<'a> {
         self.kept.index_of(id).is_some()
     }
 
-    /// The theorem with a number, whose statement this is, as it was read again.
+    /// The theorem with a number, whose statement this is, as it was read again, by a reader of one
+    /// proof after the other.
     pub fn theorem_at(
         &self,
+        steps: &mut StepsReader<'a>,
         alloc: Global,
-        statement: &Statement,
+        statement: &Statement<'a>,
         id: LabelId,
     ) -> Result<Theorem, AskFault>
         requires { IsTheoremIn self.now.files id.0 (plain_statement statement.now) }
@@ -240,7 +242,6 @@ impl<'a> Checked<'a> {
             theorem.span ≡ (plain_statement statement.now).span) }
         ensures memory { IfErr result (λ fault. fault ≡ Memory) }
     {
-        let mut steps = StepsReader::new(alloc);
-        read_theorem(&mut steps, alloc, self.profile, &self.book, id, statement)
+        read_theorem(steps, alloc, self.profile, &self.book, id, statement)
     }
 }
