@@ -164,11 +164,7 @@ fn unknown_code(
 
 /// The text of the rule for whose code the words ask, and for a pasted refusal a line on how to see
 /// the fault explained; without words the list of the codes.
-pub fn explanation<'a>(
-    alloc: Global,
-    texts: &Texts<'_>,
-    asked: &[&str],
-) -> Result<String, Stop<'a>>
+pub fn explanation<'a>(alloc: Global, texts: &Texts<'_>, asked: &[&str]) -> Result<String, Stop<'a>>
     ensures text { IfOk result (λ text.
         IsExplanation texts.now (map (λ word. word.now) asked.now) (string_bytes text)) }
     ensures unknown { IfErr result

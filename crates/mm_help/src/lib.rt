@@ -1,7 +1,8 @@
 //! The texts that are printed as they stand: the help, its pages, and the rules.
-//! It answers `help_text` and `explanation`; `program_texts` are the texts of the program. It stands
-//! on `mm_words`, for how the program ends where no text answers. Begin with `texts`, then `pages`,
-//! `rules` and `explain`; what is printed is defined in `specs/Help.antt` and `specs/Explained.antt`.
+//! It answers `help_text` and `explanation`; `program_texts` are the texts of the program. It
+//! stands on `mm_words`, for how the program ends where no text answers. Begin with `texts`, then
+//! `pages`, `rules` and `explain`; what is printed is defined in `specs/Help.antt` and
+//! `specs/Explained.antt`.
 #![tactic(auto)]
 
 mod code_lines;

@@ -660,6 +660,14 @@ fn version_page() -> &'static str
     VERSION
 }
 
+/// The page of a command, with this text.
+fn page_of<'t>(command: &'t str, text: &'t str) -> Page<'t>
+    ensures command { result.command.now ≡ command.entry.now }
+    ensures text { result.text.now ≡ text.entry.now }
+{
+    Page { command, text }
+}
+
 /// A page for each command, in the order of the command line.
 pub fn program_pages() -> [Page<'static>; 19]
     ensures commands { map (λ page. page.command.now) result ≡ command_names }
@@ -667,81 +675,24 @@ pub fn program_pages() -> [Page<'static>; 19]
         result }
 {
     [
-        Page {
-            command: "check",
-            text: check_page(),
-        },
-        Page {
-            command: "faults",
-            text: faults_page(),
-        },
-        Page {
-            command: "why",
-            text: why_page(),
-        },
-        Page {
-            command: "axioms",
-            text: axioms_page(),
-        },
-        Page {
-            command: "users",
-            text: users_page(),
-        },
-        Page {
-            command: "statement",
-            text: statement_page(),
-        },
-        Page {
-            command: "find",
-            text: find_page(),
-        },
-        Page {
-            command: "show",
-            text: show_page(),
-        },
-        Page {
-            command: "normal",
-            text: normal_page(),
-        },
-        Page {
-            command: "packed",
-            text: packed_page(),
-        },
-        Page {
-            command: "small",
-            text: small_page(),
-        },
-        Page {
-            command: "minimize",
-            text: minimize_page(),
-        },
-        Page {
-            command: "lemmas",
-            text: lemmas_page(),
-        },
-        Page {
-            command: "same",
-            text: same_page(),
-        },
-        Page {
-            command: "try",
-            text: try_page(),
-        },
-        Page {
-            command: "diff",
-            text: diff_page(),
-        },
-        Page {
-            command: "explain",
-            text: explain_page(),
-        },
-        Page {
-            command: "help",
-            text: help_page(),
-        },
-        Page {
-            command: "version",
-            text: version_page(),
-        },
+        page_of("check", check_page()),
+        page_of("faults", faults_page()),
+        page_of("why", why_page()),
+        page_of("axioms", axioms_page()),
+        page_of("users", users_page()),
+        page_of("statement", statement_page()),
+        page_of("find", find_page()),
+        page_of("show", show_page()),
+        page_of("normal", normal_page()),
+        page_of("packed", packed_page()),
+        page_of("small", small_page()),
+        page_of("minimize", minimize_page()),
+        page_of("lemmas", lemmas_page()),
+        page_of("same", same_page()),
+        page_of("try", try_page()),
+        page_of("diff", diff_page()),
+        page_of("explain", explain_page()),
+        page_of("help", help_page()),
+        page_of("version", version_page()),
     ]
 }

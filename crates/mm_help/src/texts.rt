@@ -289,10 +289,7 @@ fn codes() -> &'static str {
 }
 
 /// The texts of the program, with these pages and these chapters of rules.
-pub fn program_texts<'t>(
-    pages: &'t [Page<'t>],
-    chapters: &'t [&'t [RuleText<'t>]],
-) -> Texts<'t>
+pub fn program_texts<'t>(pages: &'t [Page<'t>], chapters: &'t [&'t [RuleText<'t>]]) -> Texts<'t>
     ensures pages { result.pages ≡ pages.entry }
     ensures chapters { result.chapters ≡ chapters.entry }
 {

@@ -3,7 +3,7 @@
 use crate::lemma::Wanted;
 use crate::names::Words;
 use crate::pattern::Pattern;
-use crate::trial::Wording;
+use crate::wording::Wording;
 use mm_frame::{Piece, Sym};
 use std::alloc::AllocError;
 

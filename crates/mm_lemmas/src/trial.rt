@@ -13,7 +13,7 @@ use crate::rows::next_number;
 use crate::search::Search;
 use crate::size::Names;
 use crate::text_size::text_bytes;
-use crate::wording::{worded, worded_each};
+use crate::wording::{Wording, worded, worded_each};
 use mm_frame::Piece;
 use std::alloc::{AllocError, Global};
 
@@ -38,13 +38,6 @@ pub(crate) struct Changed {
 pub(crate) struct Spot {
     pub(crate) block: u32,
     pub(crate) mathbox: u32,
-}
-
-/// The hypotheses of a lemma and what it concludes, as symbols.
-#[derive(Drop)]
-pub(crate) struct Wording {
-    pub(crate) hypotheses: Vec<Vec<Piece>>,
-    pub(crate) conclusion: Vec<Piece>,
 }
 
 /// A lemma, and where it stands.

@@ -9,6 +9,13 @@ use std::alloc::AllocError;
 /// A lemma with an expression of more symbols isn't made.
 pub(crate) const MOST_WORDS: u64 = 4_000;
 
+/// The hypotheses of a lemma and what it concludes, as symbols.
+#[derive(Drop)]
+pub(crate) struct Wording {
+    pub(crate) hypotheses: Vec<Vec<Piece>>,
+    pub(crate) conclusion: Vec<Piece>,
+}
+
 // What is spelled next.
 #[derive(Clone, Copy)]
 enum Word {

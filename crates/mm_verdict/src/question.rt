@@ -1,5 +1,5 @@
-//! What can be asked: the commands, and their questions about the database, about a theorem, and about
-//! a theorem alone. The crates above answer them.
+//! What can be asked: the commands, and their questions about the database, about a theorem, and
+//! about a theorem alone. The crates above answer them.
 
 use crate::form::Form;
 use mm_step::Profile;

@@ -9,6 +9,7 @@ use Rattle.std.specs.List.{position, position_or_len}
 use Rattle.std.specs.Str.{bytes_eq}
 use Rattle.mm_base.specs.MostBytes.{most_bytes}
 use Rattle.mm_base.proofs.Lists.{all_push}
+use Rattle.mm_base.proofs.NoneThere.{none_there as none_is_there}
 use Rattle.mm_text.proofs.Inclusions.OpenFiles.{position-names}
 use borrow.Author.Tests.{ltb-true}
 use Rattle.std.specs.Global.{Vec}
@@ -234,11 +235,6 @@ form_asked words form rows whole given label names commands file all not_given w
 
 -- ---- `axioms`
 
--- what isn't there is none
-none_of : {X : Type 0} (o : Option X) → is_some o ≡ false → o ≡ None
-none_of None h = refl
-none_of (Some x) h = absurd (cc)
-
 is_some_map : {X Y : Type 0} (f : X → Y) (o : Option X) → is_some (option_map f o) ≡ is_some o
 is_some_map f None = refl
 is_some_map f (Some x) = refl
@@ -276,7 +272,7 @@ module _ (rows : List Row) (all essential : Bool) (to : Option (Bor Text)) (behi
       → AsksAxioms words true essential None behind
   all_axioms_asked true same alone given words commands = absurd (cc)
   all_axioms_asked false same alone given words commands =
-      let none : to ≡ None = none_of to (sym same) in
+      let none : to ≡ None = none_is_there to (sym same) in
       rw (given, none) at by_axioms words commands
 
   -- Flags that exclude each other are refused.

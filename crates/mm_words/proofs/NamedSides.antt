@@ -83,4 +83,3 @@ no_sides_in words none others old new (some, more, inl (other, is, before, after
     absurd (cc)
 no_sides_in words none others old new (some, more, inr (is, two, before, after)) =
     others (sym (length-map words (λ (w : Bor (List ℕ)). w.now)) ∙ two)
-

@@ -65,10 +65,7 @@ pub trait Arguments {
 ///
 /// `NotText` only where the host failed, and not for lack of memory; `Memory` where a growth was
 /// refused.
-pub fn words_of(
-    alloc: Global,
-    given: io::Result<env::Args>,
-) -> Result<Vec<String>, ArgumentFault>
+pub fn words_of(alloc: Global, given: io::Result<env::Args>) -> Result<Vec<String>, ArgumentFault>
     ensures cause { IsErrOf result ArgumentFault.NotText
         → IsErrAnd given (λ error. error_kind error ≢ OutOfMemory) }
 {

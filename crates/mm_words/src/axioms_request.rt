@@ -61,7 +61,10 @@ fn axioms_question<'a>(essential: bool, to: Option<&'a str>) -> Question<'a>
 
 /// What the matches of the command `axioms` ask for: with `--all` each word names a file, else the
 /// first is a label.
-pub(crate) fn axioms_request<'a>(alloc: Global, matches: &ArgMatches<'a>) -> Result<Request<'a>, Stop<'a>>
+pub(crate) fn axioms_request<'a>(
+    alloc: Global,
+    matches: &ArgMatches<'a>,
+) -> Result<Request<'a>, Stop<'a>>
     ensures request { IfOk result (λ request. (words : List Text)
         → Commands words (codes "axioms") (rows_of (found_of matches.now))
         → Asks words request) }

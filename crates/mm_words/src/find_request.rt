@@ -30,7 +30,10 @@ fn assertions_request(names: Vec<&str>) -> Request<'_>
 
 /// What the matches of the command `statement` ask for: with `--all` each word names a file, else
 /// the first is a label.
-pub(crate) fn statement_request<'a>(alloc: Global, matches: &ArgMatches<'a>) -> Result<Request<'a>, Stop<'a>>
+pub(crate) fn statement_request<'a>(
+    alloc: Global,
+    matches: &ArgMatches<'a>,
+) -> Result<Request<'a>, Stop<'a>>
     ensures request { IfOk result (λ request. (words : List Text)
         → Commands words (codes "statement") (rows_of (found_of matches.now))
         → Asks words request) }
@@ -76,7 +79,10 @@ fn are_short(patterns: &[&str]) -> bool
 }
 
 /// What the matches of the command `find` ask for.
-pub(crate) fn find_request<'a>(alloc: Global, matches: &ArgMatches<'a>) -> Result<Request<'a>, Stop<'a>>
+pub(crate) fn find_request<'a>(
+    alloc: Global,
+    matches: &ArgMatches<'a>,
+) -> Result<Request<'a>, Stop<'a>>
     ensures request { IfOk result (λ request. (words : List Text)
         → Commands words (codes "find") (rows_of (found_of matches.now))
         → Asks words request) }

@@ -67,7 +67,10 @@ fn number_behind<'a>(
 }
 
 /// What the matches of the command `lemmas` ask for.
-pub(crate) fn lemmas_request<'a>(alloc: Global, matches: &ArgMatches<'a>) -> Result<Request<'a>, Stop<'a>>
+pub(crate) fn lemmas_request<'a>(
+    alloc: Global,
+    matches: &ArgMatches<'a>,
+) -> Result<Request<'a>, Stop<'a>>
     ensures request { IfOk result (λ request. (words : List Text)
         → Commands words (codes "lemmas") (rows_of (found_of matches.now))
         → Asks words request) }

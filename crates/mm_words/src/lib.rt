@@ -1,7 +1,7 @@
 //! The words of a command line: what they ask for.
-//! It answers `request_of`, by `clap`: the help, a rule, or a command over files, with what it asks.
-//! It stands on `mm_verdict`, whose `Command` a request holds, and on nothing that answers one. Begin
-//! with `request`, then `words` and `command_line`; what the words ask for is defined in
+//! It answers `request_of`, by `clap`: the help, a rule, or a command over files, with what it
+//! asks. It stands on `mm_verdict`, whose `Command` a request holds, and on nothing that answers
+//! one. Begin with `request`, then `words` and `command_line`; what the words ask for is defined in
 //! `specs/Words.antt`.
 #![tactic(auto)]
 

@@ -79,7 +79,10 @@ fn listed_request(names: Vec<&str>) -> Request<'_>
 }
 
 /// What the matches of the command `minimize` ask for.
-pub(crate) fn minimize_request<'a>(alloc: Global, matches: &ArgMatches<'a>) -> Result<Request<'a>, Stop<'a>>
+pub(crate) fn minimize_request<'a>(
+    alloc: Global,
+    matches: &ArgMatches<'a>,
+) -> Result<Request<'a>, Stop<'a>>
     ensures request { IfOk result (λ request. (words : List Text)
         → Commands words (codes "minimize") (rows_of (found_of matches.now))
         → Asks words request) }

@@ -7,8 +7,8 @@ ghost use Rattle.mm_words.specs.Words.{IsFaultOfKind, IsOfKind, command_line, fi
 use crate::command_line::{AXIOMS, FILES, LABEL, MINIMIZE, PROOF};
 use crate::request::Request;
 use crate::stop::Stop;
-use clap::{Command, Error};
 use clap::error::ErrorKind;
+use clap::{Command, Error};
 use std::alloc::{AllocError, Global};
 
 /// How `clap` begins the advice to pass an unknown option as a value.

@@ -63,7 +63,10 @@ fn show_command<'a>(
 }
 
 /// What the matches of the command `show` ask for.
-pub(crate) fn show_request<'a>(alloc: Global, matches: &ArgMatches<'a>) -> Result<Request<'a>, Stop<'a>>
+pub(crate) fn show_request<'a>(
+    alloc: Global,
+    matches: &ArgMatches<'a>,
+) -> Result<Request<'a>, Stop<'a>>
     ensures request { IfOk result (λ request. (words : List Text)
         → Commands words (codes "show") (rows_of (found_of matches.now))
         → Asks words request) }

@@ -10,8 +10,8 @@ ghost use Rattle.mm_step.specs.declared.profile.Profile.{Profile};
 use crate::axioms_request::axioms_request;
 use crate::command_line::{
     ALL, AXIOMS, CHECK, CODE, COMMAND, DIFF, EXPLAIN, FAULTS, FILES, FIND, HELP, LABEL, LEMMAS,
-    MINIMIZE, NORMAL, PACKED, PROOF, SAME, SHOW, SMALL, STATEMENT, STRICT, TRY, USERS, VERSION, WHY,
-    whole_command,
+    MINIMIZE, NORMAL, PACKED, PROOF, SAME, SHOW, SMALL, STATEMENT, STRICT, TRY, USERS, VERSION,
+    WHY, whole_command,
 };
 use crate::diff_request::diff_request;
 use crate::find_request::{find_request, statement_request};
