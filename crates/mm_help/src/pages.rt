@@ -662,7 +662,9 @@ fn version_page() -> &'static str
 
 /// The page of a command, with this text.
 fn page_of<'t>(command: &'t str, text: &'t str) -> Page<'t>
+    requires { IsTrue (is_page_of command.now text.now) }
     ensures command { result.command.now ≡ command.entry.now }
+    ensures usage { IsTrue (is_page_of result.command.now result.text.now) }
     ensures text { result.text.now ≡ text.entry.now }
 {
     Page { command, text }

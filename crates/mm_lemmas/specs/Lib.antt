@@ -1,3 +1,2 @@
-pub mod WithLemmas
 pub mod Told
 pub mod Mirror

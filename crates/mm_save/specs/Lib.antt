@@ -1,2 +1,3 @@
 pub mod AllSaved
 pub mod Mirror
+pub mod WithLemmas

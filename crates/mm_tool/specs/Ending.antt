@@ -27,6 +27,8 @@ use Rattle.clap.specs.Words.{Text}
 use Rattle.mm_tool.specs.Folder.{AreHeld, AreTooLong, IsHeld, IsUnreadable, KnownFile, MayHold}
 use Rattle.mm_tool.specs.Answer.{Outcome, quiet}
 use Rattle.mm_help.specs.Explained.{IsExplanation, IsUnknownCode}
+use Rattle.mm_help.specs.Help.{IsHelp, IsUnknownCommand}
+use Rattle.mm_words.specs.Unread.{unread_stop}
 use Rattle.mm_tool.specs.Notes.{AreNotesBeside, search_line}
 use Rattle.mm_words.specs.Words.{AsksHelp, AsksVersion, AsksExplain, AsksRun, AsksText}
 use Rattle.mm_words.specs.Words.{AreRefusedWords, AsksDiff}
