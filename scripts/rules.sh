@@ -133,7 +133,7 @@ made() {
                 calls = calls "        " chapters[i] "(),\n"
             }
             printf "\n/// The chapters, in the order of their rules.\n"
-            printf "pub(crate) fn rule_chapters() -> [%s; %d] {\n", type, count
+            printf "pub fn rule_chapters() -> [%s; %d] {\n", type, count
             printf "    [\n%s    ]\n}\n", calls
         } else {
             printf "//! The codes of the rules. "

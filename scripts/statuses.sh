@@ -831,13 +831,13 @@ for words in 'th' --list '--all first.mm'; do
 done
 
 # Lemmas: what is told of them, how many at most, and how many bytes each saves at least.
-lemma='13 5 5 disjunction-is-commutative 1 disjunction-is-weaker : |- P => |- ( Q or P )\n'
+lemma='27 5 5 disjunction-is-commutative 1 disjunction-is-weaker : |- P => |- ( Q or P )\n'
 sed '$a open $p |- a $= ? $.' lacking.mm >unproved.mm
-for options in '' '--most 1' '--least 13' '--most 1 --least 13' '--most 4294967295'; do
-    ends 0 "${lemma}1 lemmas 13 5\n" '' lemmas --list $options lacking.mm
-    ends 3 "${lemma}1 lemmas 13 5\n" '' lemmas $options unproved.mm --list
+for options in '' '--most 1' '--least 27' '--most 1 --least 27' '--most 4294967295'; do
+    ends 0 "${lemma}1 lemmas 27 5\n" '' lemmas --list $options lacking.mm
+    ends 3 "${lemma}1 lemmas 27 5\n" '' lemmas $options unproved.mm --list
 done
-for least in 14 100; do
+for least in 28 100; do
     ends 0 '0 lemmas 0 0\n' '' lemmas --list --least $least lacking.mm
 done
 sed 's/^one /$( (Proof modification is discouraged.) $)\n&/' lacking.mm >settled.mm
@@ -847,9 +847,9 @@ for file in settled.mm discouraged.mm empty.mm; do
 done
 { cat lacking.mm; printf '${ h $e |- Q $. late $p |- ( P or Q ) $=\n'
     printf '  wq wp wq wp h disjunction-is-weaker disjunction-is-commutative $. $}\n'; } >late.mm
-ends 0 '58 6 6 disjunction-is-commutative 1 disjunction-is-weaker is late : |- P => |- ( Q or P )\n1 lemmas 58 6\n' \
+ends 0 '72 6 6 disjunction-is-commutative 1 disjunction-is-weaker is late : |- P => |- ( Q or P )\n1 lemmas 72 6\n' \
     '' lemmas --list late.mm
-watched '\rmm: 1 of 1 theorems, 13 bytes saved\r\n' lemmas --list lacking.mm
+watched '\rmm: 1 of 1 theorems, 27 bytes saved\r\n' lemmas --list lacking.mm
 ends 1 'no twice.mm 2 - M2 0\n' '' lemmas --list twice.mm
 ends 4 'load F2\n' '' lemmas --list first.mm first.mm
 ends 4 '' 'mm: cannot read none.mm\n' lemmas --list first.mm none.mm
