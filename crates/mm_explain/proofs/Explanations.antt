@@ -48,6 +48,7 @@ use Rattle.mm_explain.specs.Mirror.Reasons.{IsRefusedLast, IsExplainedBut, AreEx
 use Rattle.mm_explain.specs.Mirror.Reasons.{HasExplained}
 use Rattle.mm_explain.specs.Mirror.Standing.{IsPlaced}
 use Rattle.mm_explain.specs.HypothesisPlaces.{AreHypothesisPlaces}
+use Rattle.mm_explain.specs.Unused.{AreUnused, unused_text}
 use Rattle.mm_explain.specs.declared.why.Reasons.{Reasons}
 use Rattle.mm_verdict.proofs.Verdicts.AcceptedStatements.{proof_fits}
 use Rattle.mm_rules.proofs.Judgements.JudgedProofs.{prefix_of}
@@ -71,12 +72,13 @@ some_more profile count some =
     false_from_ne_true (count == 0) (λ e. some (eqb-true count 0 e)) in
     rw other refl
 
--- head, facts, and places
-pub explanation_told : (out head : List ℕ) (details places : List Detail) (o₁ o₂ o₃ : List ℕ)
-    → o₁ ≡ out ++ head → o₂ ≡ o₁ ++ details_text details → o₃ ≡ o₂ ++ details_text places
-    → o₃ ≡ out ++ (head ++ details_text (details ++ places))
-explanation_told out head details places o₁ o₂ o₃ h₁ h₂ h₃ =
-    rw (h₃, h₂, h₁, flat_map-append detail_text details places) (simp append_assoc)
+-- head, facts, places, and the line of labels that no step is by
+pub explanation_told : (out head : List ℕ) (details places : List Detail) (line : List ℕ)
+    (o₁ o₂ o₃ o₄ : List ℕ) → o₁ ≡ out ++ head → o₂ ≡ o₁ ++ details_text details
+    → o₃ ≡ o₂ ++ details_text places → o₄ ≡ o₃ ++ line
+    → o₄ ≡ out ++ (head ++ details_text (details ++ places) ++ line)
+explanation_told out head details places line o₁ o₂ o₃ o₄ h₁ h₂ h₃ h₄ =
+    rw (h₄, h₃, h₂, h₁, flat_map-append detail_text details places) (simp append_assoc)
 
 -- ==== the `$p` that a book took last
 
@@ -159,6 +161,16 @@ place_of_same profile s {before} {others} {rule} {broken} {step} {number} f g h 
     (subst (λ n. IsFaultPlace profile before s broken n at) g
     (subst (λ r. IsFaultPlace profile before s r step at) f place))
 
+-- so are the labels that no step is by
+unused_of : (s : Sentence) {before others : List Sentence} {tokens texts : List (List ℕ)}
+    {step number : ℕ} → tokens ≡ texts → step ≡ number → before ≡ others
+    → (unused : List (List ℕ)) → AreUnused before s tokens step unused
+    → AreUnused others s texts number unused
+unused_of s {before} {others} {tokens} {texts} {step} {number} e g h unused are =
+    subst (λ ss. AreUnused ss s texts number unused) h
+    (subst (λ n. AreUnused before s texts n unused) g
+    (subst (λ ts. AreUnused before s ts step unused) e are))
+
 -- so is the label that it breaks P2 at
 unknown_of : {before others : List Sentence} {tokens texts : List (List ℕ)}
     {rule broken : ProofRule} → tokens ≡ texts → rule ≡ broken → before ≡ others
@@ -238,12 +250,14 @@ module _ {profile : Profile} {files : List PlainFile} {told : List Sentence} {s 
           → AreDetails files profile (take (length (sentences r.before)) told) (sentence_of s) placed
           rule step details
           → (places : List Detail) → AreHypothesisPlaces files r.before s rule step places
+          → (unused : List (List ℕ))
+          → AreUnused (take (length (sentences r.before)) told) (sentence_of s) tokens step unused
           → (label : Option (List ℕ))
           → IsUnknownIn (take (length (sentences r.before)) told) tokens rule label
           → IsExplainedBut profile files told s refusal label
-          (head_text files place refusal ++ details_text (details ++ places))
-      explained_there tokens same placed own rule step one at place stands details facts places stand label
-          unknown =
+          (head_text files place refusal ++ details_text (details ++ places) ++ unused_text unused)
+      explained_there tokens same placed own rule step one at place stands details facts places
+          stand unused by_none label unknown =
           let told_rule : rules.Proof rule ≡ rules.Proof r.refused.rule =
           one ∙ ap (λ (x : PlainRefusal). x.rule) r.refused.refused in
           let told_step : step ≡ r.refused.step =
@@ -269,6 +283,8 @@ module _ {profile : Profile} {files : List PlainFile} {told : List Sentence} {s 
                   told_step
                   (subst (λ (b : ProofRule). AreHypothesisPlaces files r.before s b step places)
                   same_rule stand);
+              unused = unused;
+              by_none = unused_of (sentence_of s) same told_step earlier unused by_none;
               label = label;
               unknown = unknown_of same same_rule earlier label unknown;
               said = refl;

@@ -9,3 +9,4 @@ pub mod NamesMet
 pub mod Collisions
 pub mod HypothesisScopes
 pub mod OwnHypotheses
+pub mod UnusedLabels

@@ -3,6 +3,7 @@ pub mod Near
 pub mod Mirror
 pub mod TextFacts
 pub mod HypothesisPlaces
+pub mod Unused
 pub mod LastFacts
 pub mod Later
 pub mod Why

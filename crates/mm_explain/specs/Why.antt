@@ -22,6 +22,7 @@ use Rattle.mm_facts.specs.Explained.{Detail, AreDetails, details_text}
 use Rattle.mm_explain.specs.HypothesisPlaces.{AreHypothesisPlaces}
 use Rattle.mm_explain.specs.LastFacts.{AreLastFacts}
 use Rattle.mm_explain.specs.Later.{IsUnknownIn, stated_later}
+use Rattle.mm_explain.specs.Unused.{AreUnused, unused_text}
 use Rattle.mm_rules.specs.Places.{place_of, place_text}
 use Rattle.mm_verdict.specs.Why.{is_of_proofs}
 use Rattle.mm_facts.specs.Why.{IsFaultPlace, IsPlaceAmong}
@@ -64,8 +65,8 @@ IsTextPlace profile before s text rule step at =
 -- ---- explanations
 
 -- The text explains the refusal of a statement of the files for the fault of its proof: the first
--- line, the facts, those of where hypotheses stand, and where a label that no earlier statement has
--- is stated further down.
+-- line, the facts, those of where hypotheses stand, the listed labels that no step is by, and where
+-- a label that no earlier statement has is stated further down.
 pub record IsExplanation (profile : Profile) (files : List PlainFile) (refusal : PlainRefusal)
     (text : List ℕ) : Type 0 where
   pub before : List PlainStatement
@@ -81,10 +82,12 @@ pub record IsExplanation (profile : Profile) (files : List PlainFile) (refusal :
       refused.step details
   pub places : List Detail
   pub stand : AreHypothesisPlaces files before s refused.rule refused.step places
+  pub unused : List (List ℕ)
+  pub by_none : AreUnused (sentences before) (sentence_of s) (proof_of s) refused.step unused
   pub label : Option (List ℕ)
   pub unknown : IsUnknownIn (sentences before) (proof_of s) refused.rule label
   pub said : text ≡ head_text files at refusal ++ details_text (details ++ places)
-      ++ details_text (stated_later files label after)
+      ++ unused_text unused ++ details_text (stated_later files label after)
 
 -- The text explains the refusal for the fault that ends the run: the first line, and the facts.
 pub record IsLastExplanation (files : List PlainFile) (refusal : PlainRefusal)

@@ -18,6 +18,7 @@ mod semantic_error;
 mod statement_at;
 mod text_fault;
 mod trial;
+mod unused;
 mod why;
 
 pub use label_suggestion::nearest_label;

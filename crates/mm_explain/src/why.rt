@@ -32,6 +32,7 @@ ghost use Rattle.mm_rules.specs.declared.rule.Rule.TheVariants.{Proof};
 use crate::forward_reference::{push_later, read_labels};
 use crate::hypothesis_places::push_hypothesis_places;
 use crate::last::last_facts;
+use crate::unused::push_unused;
 use mm_base::{File, Seed, Statement, Token};
 use mm_facts::{Cause, cause_of, fault_place, push_cause};
 use mm_frame::{Book, Found, LabelId};
@@ -259,6 +260,7 @@ fn push_explanation<'a>(
     push_cause(out, alloc, profile, book, id, &cause, fault.0)?;
     let place = (id, refusal.statement - 1);
     push_hypothesis_places(out, alloc, files, book, place, &cause, fault.0)?;
+    push_unused(out, alloc, book, &statement.proof, &cause)?;
     Ok(unknown_label(&cause, fault.0))
 }
 

@@ -1,5 +1,5 @@
 -- The proof at fault is that of the statement, and the text its head and the facts.
-use Rattle.std.proofs.Common.{ℕ, List, ◌++◌, ◌-◌, map, length, ap, refl, subst, ◌∙◌}
+use Rattle.std.proofs.Common.{ℕ, List, ◌++◌, ◌-◌, map, length, take, ap, refl, sym, subst, ◌∙◌}
 use Rattle.std.specs.Prelude.{option_map}
 use Rattle.mm_base.specs.Statement.{plain_statement}
 use Rattle.mm_base.specs.Token.{PlainToken, plain_token}
@@ -10,6 +10,7 @@ use Rattle.mm_rules.specs.Answer.{plain_refusal}
 use Rattle.mm_rules.specs.Verdict.{proof_of, sentences}
 use Rattle.mm_rules.proofs.Judgements.JudgedProofs.{texts_of}
 use Rattle.mm_explain.specs.Why.{head_text}
+use Rattle.mm_explain.specs.Unused.{AreUnused, unused_text}
 use Rattle.mm_facts.specs.Explained.{details_text}
 use Rattle.mm_facts.specs.Mirror.Explaining.{IsCauseOf}
 use Rattle.mm_explain.proofs.Explanations.{told_parts, proof_in_room, fault_there, explained_there}
@@ -123,15 +124,25 @@ returns c =
     c.in_ok-cause.ensures.told index (sentence_of s) mine in
     let head = head_text files c.fault_place.result (plain_refusal c.args.refusal.now) in
     let (places, stand, more) = c.in_ok-push_hypothesis_places.ensures standing c.args.profile step
-    own_cause in (
-      head ++ details_text (details ++ places),
+    own_cause in
+    let again = ap token_texts (c.deref.ensures.value ∙ sym c.deref-2.ensures.value) in
+    let (unused, by_none, last) = c.in_ok-push_unused.ensures c.args.profile id rule step
+    (subst
+    (λ (ts : List (List ℕ)). IsCauseOf c.args.profile st id ts rule step c.in_ok-cause.cause)
+    again caused)
+    index (sentence_of s) mine in (
+      head ++ details_text (details ++ places) ++ unused_text unused,
       explained_there r id mine tokens own placed
           (ap (map plain_token) c.deref.ensures.value) rule step c.fault_in-fault.ensures.rule
           c.fault_in-fault.ensures.step c.fault_place.result place details facts places stand
+          unused
+          (subst (λ (ts : List (List ℕ)). AreUnused (take index st) (sentence_of s) ts step unused)
+          (sym again) by_none)
           (option_map (λ l. l.now) c.unknown_label.result)
           (c.unknown_label.ensures c.args.profile st id index (sentence_of s) tokens step mine
           caused),
-      explanation_told c.args.out.now.items head details places c.push_head.new.out.items
-          c.push_cause.new.out.items c.push_hypothesis_places.new.out.items
-          c.in_ok-push_head.ensures put more,
+      explanation_told c.args.out.now.items head details places (unused_text unused)
+          c.push_head.new.out.items c.push_cause.new.out.items
+          c.push_hypothesis_places.new.out.items c.push_unused.new.out.items
+          c.in_ok-push_head.ensures put more last,
     )

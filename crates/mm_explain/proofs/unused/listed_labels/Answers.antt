@@ -1,0 +1,12 @@
+-- Tokens with no `)` behind the first one are those of no compressed proof.
+use Rattle.std.proofs.Common.{take, drop, length, ◌-◌, inr}
+use Rattle.mm_step.specs.Plain.{token_texts}
+use Rattle.mm_places.proofs.ProofPlaces.WholePlaces.{never_endless, after_first}
+use Rattle.mm_explain.proofs.unused.listed_labels.Goals as goal
+
+pub returns-in-None : goal.returns-in-None
+returns-in-None c = λ labels letters parts.
+    let tokens = c.args.tokens.now in
+    never_endless (token_texts tokens) (token_texts (take (length tokens - 1) (drop 1 tokens)))
+    labels (after_first tokens (c.begins_list.ensures.first.0 c.if-begins_list.true))
+    c.in-None.ensures (inr (letters, parts))
