@@ -662,14 +662,14 @@ ends 4 'load F2\n' '' check first.mm empty.mm empty.mm
 diff_use='mm diff OLD NEW\n       mm diff OLD.. -- NEW..'
 sed 's/t + r/r + t/; s/tze [$]a/tzero $a/; s/= tze tze tpl/= tzero/; s/( 0 + 0 )/0/' \
     first.mm >second.mm
-none='differ 0 gone 0 added 0 changed\n'
+none='differ 0 gone 0 added 0 changed 0 reproved\n'
 ends 0 "$none" '' diff first.mm saved.mm
 ends 0 "$none" '' diff first.mm ./first.mm
 ends 0 "$none" '' diff first.mm -- first.mm
 ends 0 "$none" '' diff empty.mm ./empty.mm
-ends 1 'G tze\nA tzero\nC tpl\nC th\ndiffer 1 gone 1 added 2 changed\n' '' diff first.mm second.mm
-ends 1 'G tzero\nA tze\nC tpl\nC th\ndiffer 1 gone 1 added 2 changed\n' '' diff second.mm first.mm
-ends 1 'A tze\nA tpl\nA th\ndiffer 0 gone 3 added 0 changed\n' '' diff empty.mm -- -first.mm
+ends 1 'G tze\nA tzero\nC tpl\nC th\ndiffer 1 gone 1 added 2 changed 0 reproved\n' '' diff first.mm second.mm
+ends 1 'G tzero\nA tze\nC tpl\nC th\ndiffer 1 gone 1 added 2 changed 0 reproved\n' '' diff second.mm first.mm
+ends 1 'A tze\nA tpl\nA th\ndiffer 0 gone 3 added 0 changed 0 reproved\n' '' diff empty.mm -- -first.mm
 ends 0 "$none" '' diff top.mm terms.mm rules.mm symbols.mm -- top.mm terms.mm rules.mm symbols.mm
 ends 0 "$none" "$(note twice.mm)$(note loose.mm tight.mm)" \
     diff first.mm twice.mm -- saved.mm loose.mm tight.mm

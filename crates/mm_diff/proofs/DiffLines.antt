@@ -29,11 +29,12 @@ one_more_line letter labels ids k d h =
     rw (take_more ids k d h) (simp (map-append, flat_map-append))
 
 -- the sums
-pub sums_told : (gone added changed : ℕ) (o₀ o₁ o₂ o₃ o₄ o₅ o₆ o₇ o₈ : List ℕ)
+pub sums_told : (gone added changed reproved : ℕ) (o₀ o₁ o₂ o₃ o₄ o₅ o₆ o₇ o₈ o₉ o : List ℕ)
     → o₁ ≡ o₀ ++ codes "differ" → o₂ ≡ o₁ ++ codes " " ++ decimal gone
     → o₃ ≡ o₂ ++ codes " " ++ codes "gone" → o₄ ≡ o₃ ++ codes " " ++ decimal added
     → o₅ ≡ o₄ ++ codes " " ++ codes "added" → o₆ ≡ o₅ ++ codes " " ++ decimal changed
-    → o₇ ≡ o₆ ++ codes " " ++ codes "changed" → o₈ ≡ o₇ ++ 10 ∷ []
-    → o₈ ≡ o₀ ++ sums_line gone added changed
-sums_told gone added changed o₀ o₁ o₂ o₃ o₄ o₅ o₆ o₇ o₈ h₁ h₂ h₃ h₄ h₅ h₆ h₇ h₈ =
-    rw (h₈, h₇, h₆, h₅, h₄, h₃, h₂, h₁) (simp append_assoc)
+    → o₇ ≡ o₆ ++ codes " " ++ codes "changed" → o₈ ≡ o₇ ++ codes " " ++ decimal reproved
+    → o₉ ≡ o₈ ++ codes " " ++ codes "reproved" → o ≡ o₉ ++ 10 ∷ []
+    → o ≡ o₀ ++ sums_line gone added changed reproved
+sums_told gone added changed reproved o₀ o₁ o₂ o₃ o₄ o₅ o₆ o₇ o₈ o₉ o h₁ h₂ h₃ h₄ h₅ h₆ h₇ h₈ h₉ h =
+    rw (h, h₉, h₈, h₇, h₆, h₅, h₄, h₃, h₂, h₁) (simp append_assoc)

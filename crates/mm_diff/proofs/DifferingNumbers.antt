@@ -26,7 +26,7 @@ use Rattle.mm_diff.specs.Mirror.Differences.{Differs}
 -- ---- labels
 
 -- a hypothesis is no assertion
-no_assertion : (kind : Kind) → IsHypothesis kind → ¬ (IsAssertion kind)
+pub no_assertion : (kind : Kind) → IsHypothesis kind → ¬ (IsAssertion kind)
 no_assertion kind (inl is) (inl also) = cc
 no_assertion kind (inl is) (inr also) = cc
 no_assertion kind (inr is) (inl also) = cc
@@ -72,11 +72,11 @@ named_by st label id (index, s, numbered, asserts) told =
 
 -- ---- differences
 
-opposite : (b : Bool) → not b ≡ true → ¬ (b ≡ true)
+pub opposite : (b : Bool) → not b ≡ true → ¬ (b ≡ true)
 opposite true f t = cc
 opposite false f t = cc
 
-not_true : (b : Bool) → ¬ (b ≡ true) → not b ≡ true
+pub not_true : (b : Bool) → ¬ (b ≡ true) → not b ≡ true
 not_true true none = absurd (none refl)
 not_true false none = refl
 

@@ -3,6 +3,11 @@ pub mod ComparedNames
 pub mod ComparedPairs
 pub mod ComparedFrames
 pub mod DifferingNumbers
+pub mod LabelWidths
+pub mod TreesOfBoth
+pub mod SharedTrees
+pub mod ProofWords
+pub mod CheckedTheorems
 pub mod DiffLines
 pub mod DiffReplies
 pub mod DiffLaws

@@ -3,4 +3,7 @@
 -- specs/.
 pub mod Names
 pub mod Differences
+pub mod Homes
+pub mod Steps
+pub mod Databases
 pub mod Outcomes

@@ -2,10 +2,9 @@
 use Rattle.std.specs.Prelude.{◌≡◌, ◌⊎◌, ℕ, List, []}
 use Rattle.mm_base.specs.Statement.{PlainStatement}
 use Rattle.mm_text.specs.Files.{PlainFile}
-use Rattle.mm_frame.specs.Sentence.{Sentence}
 use Rattle.mm_step.specs.declared.profile.Profile.{Profile}
 use Rattle.mm_rules.specs.Verdict.{Verdict, Load, Refused, Incomplete, Yes}
-use Rattle.mm_rules.specs.Verdict.{HasVerdict, AreAccepted, sentences, unproved_of}
+use Rattle.mm_rules.specs.Verdict.{HasVerdict, AreAccepted, unproved_of}
 use Rattle.mm_verdict.specs.Reply.{text_of, status_of}
 use Rattle.mm_diff.specs.Diff.{TellsChanges}
 
@@ -31,14 +30,14 @@ abbrev pub HaveYes : Profile → List PlainFile → List PlainStatement → Type
 HaveYes profile files statements =
     AreAccepted profile files statements × (unproved_of statements ≡ [])
 
--- The reply over the new files, where this is what the statements of the old ones say: what
--- changed, where the new ones get yes in the profile; else that of `check` for them.
-abbrev pub IsReplyBeside : Profile → (before : List Sentence) → (new : List PlainFile)
+-- The reply over the new files, where these are the statements of the old ones: what changed, where
+-- the new ones get yes in the profile; else that of `check` for them.
+abbrev pub IsReplyBeside : Profile → (before : List PlainStatement) → (new : List PlainFile)
     → (text : List ℕ) → (status : ℕ) → Type 0
 IsReplyBeside profile before new text status =
     AreRefused profile new text status
     ⊎ ((after : List PlainStatement) × HaveYes profile new after
-    × TellsChanges before (sentences after) text status)
+    × TellsChanges before after text status)
 
 -- The reply: where the old files don't get yes, that of `check` for them; else that over the new
 -- ones.
@@ -47,4 +46,4 @@ abbrev pub IsDiffReply : Profile → (old new : List PlainFile) → (text : List
 IsDiffReply profile old new text status =
     AreRefused profile old text status
     ⊎ ((before : List PlainStatement) × HaveYes profile old before
-    × IsReplyBeside profile (sentences before) new text status)
+    × IsReplyBeside profile before new text status)

@@ -21,7 +21,7 @@ pub(crate) enum Difference {
 }
 
 /// The number of the assertion with a label.
-fn assertion_named(book: &Book, label: &[u8]) -> Option<LabelId>
+pub(crate) fn assertion_named(book: &Book, label: &[u8]) -> Option<LabelId>
     ensures some { IfSome result (λ id. IsAssertionNamed book.now.statements label.now id.0) }
     ensures none { result ≡ None
         → (n : ℕ) → ¬ (IsAssertionNamed book.now.statements label.now n) }

@@ -1,22 +1,27 @@
 //! The reply to `mm diff`.
 
-ghost use Rattle.std.specs.Prelude.{◌≡◌, ◌<◌, ℕ, [], map, length, IfOk, Ok};
+ghost use Rattle.std.specs.Prelude.{◌≡◌, ◌<◌, List, [], map, length, None, IfOk, Ok};
 ghost use Rattle.std.specs.List.{AllByRecursion};
+ghost use Rattle.mm_base.specs.Statement.{PlainStatement};
 ghost use Rattle.mm_text.specs.Files.{plain_file};
+ghost use Rattle.mm_text.specs.Reading.{Reads};
 ghost use Rattle.mm_frame.specs.Numbers.{labelled_sentences};
-ghost use Rattle.mm_rules.specs.Answer.{IsVerdict, KeepsUses};
+ghost use Rattle.mm_rules.specs.Answer.{IsVerdict, KeepsFiles, KeepsUses};
 ghost use Rattle.mm_rules.specs.Conclusion.{labels_in};
 ghost use Rattle.mm_rules.specs.Rests.{AreInOrder};
 ghost use Rattle.mm_rules.specs.Status.{number_of};
 ghost use Rattle.mm_step.specs.declared.profile.Profile.{Profile};
-ghost use Rattle.mm_diff.specs.Diff.{TellsChanges, AreChanges};
 ghost use Rattle.mm_diff.specs.Diff.{changes_text as changes_text_of};
 ghost use Rattle.mm_diff.specs.Diff.{changes_status as changes_status_of};
 ghost use Rattle.mm_diff.specs.Reply.{IsDiffReply, IsReplyBeside};
+ghost use Rattle.mm_diff.specs.Mirror.Databases.{AreChangesIn, IsComplete, TellsChangesIn};
 ghost use Rattle.mm_diff.specs.Mirror.Differences.{Differs};
 ghost use Rattle.mm_diff.specs.Mirror.Outcomes.{IsOutcome};
 
+use crate::database::Database;
 use crate::differences::{Difference, those_that_differ};
+use crate::homes::{Home, homes_of};
+use crate::reproved::those_reproved;
 use crate::text::{push_letter_lines, push_sums};
 use mm_base::{File, Seed};
 use mm_frame::{Book, LabelId};
@@ -28,8 +33,8 @@ use std::alloc::{AllocError, Global};
 /// What checking a database comes to.
 #[derive(Drop)]
 enum Outcome<'a> {
-    /// Each proof is accepted. Of what the check kept, this alone is asked.
-    Accepted(Book<'a>),
+    /// Each proof is accepted.
+    Accepted(Database<'a>),
     /// Something is at fault, or a proof is incomplete: the reply of `check`.
     Refused(Reply),
 }
@@ -43,6 +48,8 @@ struct Changes {
     added: Vec<LabelId>,
     /// In the new one, those that are changed.
     changed: Vec<LabelId>,
+    /// In the new one, those that are reproved.
+    reproved: Vec<LabelId>,
 }
 
 /// The assertions of a database that differ so from those of another one, in their order.
@@ -64,29 +71,40 @@ fn differing(
 }
 
 /// What changed from the old database to the new one.
-fn changes_between(alloc: Global, old: &Book, new: &Book) -> Result<Changes, AllocError>
-    requires old { length (labelled_sentences old.now.statements) < 4294967295 }
-    requires new { length (labelled_sentences new.now.statements) < 4294967295 }
-    ensures changes { IfOk result (λ changes. AreChanges old.now.statements new.now.statements
+fn changes_between(
+    alloc: Global,
+    old: &Checked,
+    old_homes: &[Home],
+    new: &Checked,
+    new_homes: &[Home],
+) -> Result<Changes, AllocError>
+    requires old { IsComplete old.now old_homes.now }
+    requires new { IsComplete new.now new_homes.now }
+    ensures changes { IfOk result (λ changes. AreChangesIn old.now new.now
         (map (λ l. l.0) changes.gone.items) (map (λ l. l.0) changes.added.items)
-        (map (λ l. l.0) changes.changed.items)) }
+        (map (λ l. l.0) changes.changed.items) (map (λ l. l.0) changes.reproved.items)) }
     ensures gone { IfOk result (λ changes.
-        AllByRecursion (λ n. n < length (labels_in old.now.statements))
+        AllByRecursion (λ n. n < length (labels_in old.now.sentences))
         (map (λ l. l.0) changes.gone.items)) }
     ensures added { IfOk result (λ changes.
-        AllByRecursion (λ n. n < length (labels_in new.now.statements))
+        AllByRecursion (λ n. n < length (labels_in new.now.sentences))
         (map (λ l. l.0) changes.added.items)) }
     ensures changed { IfOk result (λ changes.
-        AllByRecursion (λ n. n < length (labels_in new.now.statements))
+        AllByRecursion (λ n. n < length (labels_in new.now.sentences))
         (map (λ l. l.0) changes.changed.items)) }
+    ensures reproved { IfOk result (λ changes.
+        AllByRecursion (λ n. n < length (labels_in new.now.sentences))
+        (map (λ l. l.0) changes.reproved.items)) }
 {
-    let gone = differing(alloc, Difference::Alone, old, new)?;
-    let added = differing(alloc, Difference::Alone, new, old)?;
-    let changed = differing(alloc, Difference::Changed, new, old)?;
+    let gone = differing(alloc, Difference::Alone, &old.book, &new.book)?;
+    let added = differing(alloc, Difference::Alone, &new.book, &old.book)?;
+    let changed = differing(alloc, Difference::Changed, &new.book, &old.book)?;
+    let reproved = those_reproved(alloc, new, new_homes, old, old_homes)?;
     Ok(Changes {
         gone,
         added,
         changed,
+        reproved,
     })
 }
 
@@ -103,20 +121,24 @@ fn changes_text(
         (map (λ l. l.0) changes.now.added.items) }
     requires changed { AllByRecursion (λ n. n < length (labels_in new.now.statements))
         (map (λ l. l.0) changes.now.changed.items) }
+    requires reproved { AllByRecursion (λ n. n < length (labels_in new.now.statements))
+        (map (λ l. l.0) changes.now.reproved.items) }
     ensures { IfOk result (λ text. text.items
         ≡ changes_text_of (labels_in old.now.statements) (labels_in new.now.statements)
         (map (λ l. l.0) changes.now.gone.items) (map (λ l. l.0) changes.now.added.items)
-        (map (λ l. l.0) changes.now.changed.items)) }
+        (map (λ l. l.0) changes.now.changed.items) (map (λ l. l.0) changes.now.reproved.items)) }
 {
     let mut out = Vec::new(alloc);
     push_letter_lines(&mut out, old, b"G", &changes.gone)?;
     push_letter_lines(&mut out, new, b"A", &changes.added)?;
     push_letter_lines(&mut out, new, b"C", &changes.changed)?;
+    push_letter_lines(&mut out, new, b"P", &changes.reproved)?;
     push_sums(
         &mut out,
         changes.gone.len(),
         changes.added.len(),
         changes.changed.len(),
+        changes.reproved.len(),
     )?;
     Ok(out)
 }
@@ -124,9 +146,14 @@ fn changes_text(
 /// The status: whether anything changed.
 fn changes_status(changes: &Changes) -> Status
     ensures { number_of result ≡ changes_status_of (map (λ l. l.0) changes.now.gone.items)
-        (map (λ l. l.0) changes.now.added.items) (map (λ l. l.0) changes.now.changed.items) }
+        (map (λ l. l.0) changes.now.added.items) (map (λ l. l.0) changes.now.changed.items)
+        (map (λ l. l.0) changes.now.reproved.items) }
 {
-    if changes.gone.is_empty() && changes.added.is_empty() && changes.changed.is_empty() {
+    if changes.gone.is_empty()
+        && changes.added.is_empty()
+        && changes.changed.is_empty()
+        && changes.reproved.is_empty()
+    {
         Status::Done
     } else {
         Status::Refused
@@ -134,14 +161,20 @@ fn changes_status(changes: &Changes) -> Status
 }
 
 /// The reply that tells what changed from the old database to the new one.
-fn changes_reply(alloc: Global, old: &Book, new: &Book) -> Result<Reply, AllocError>
-    requires old { length (labelled_sentences old.now.statements) < 4294967295 }
-    requires new { length (labelled_sentences new.now.statements) < 4294967295 }
-    ensures { IfOk result (λ reply. TellsChanges old.now.statements new.now.statements
-        reply.text.items (number_of reply.status)) }
+fn changes_reply(
+    alloc: Global,
+    old: &Checked,
+    old_homes: &[Home],
+    new: &Checked,
+    new_homes: &[Home],
+) -> Result<Reply, AllocError>
+    requires old { IsComplete old.now old_homes.now }
+    requires new { IsComplete new.now new_homes.now }
+    ensures { IfOk result (λ reply. TellsChangesIn old.now new.now reply.text.items
+        (number_of reply.status)) }
 {
-    let changes = changes_between(alloc, old, new)?;
-    let text = changes_text(alloc, old, new, &changes)?;
+    let changes = changes_between(alloc, old, old_homes, new, new_homes)?;
+    let text = changes_text(alloc, &old.book, &new.book, &changes)?;
     Ok(Reply {
         text,
         status: changes_status(&changes),
@@ -172,10 +205,12 @@ fn outcome_of_checked<'a>(
     ensures { IfOk result (λ outcome. (profile : Profile)
         → IsVerdict profile (map plain_file files.now) (Ok checked.entry)
         → KeepsUses (map plain_file files.now) checked.entry
+        → KeepsFiles (map plain_file files.now) checked.entry
         → IsOutcome profile (map plain_file files.now) outcome) }
 {
     if checked.is_complete() {
-        return Ok(Outcome::Accepted(checked.book));
+        let homes = homes_of(alloc, &checked)?;
+        return Ok(Outcome::Accepted(Database { checked, homes }));
     }
     let outcome = incomplete_outcome(alloc, files, &checked);
     drop(checked);
@@ -205,17 +240,19 @@ fn reply_beside(
     alloc: Global,
     seed: Seed,
     profile: Profile,
-    old: &Book,
+    old: &Checked,
+    old_homes: &[Home],
     new: &[File],
 ) -> Result<Reply, AllocError>
-    requires { length (labelled_sentences old.now.statements) < 4294967295 }
-    ensures { IfOk result (λ reply. IsReplyBeside profile old.now.statements
+    requires { IsComplete old.now old_homes.now }
+    ensures { IfOk result (λ reply. (before : List PlainStatement)
+        → Reads old.now.files before None → IsReplyBeside profile before
         (map plain_file new.now) reply.text.items (number_of reply.status)) }
 {
     match outcome_of(alloc, seed, profile, new)? {
-        Outcome::Accepted(book) => {
-            let reply = changes_reply(alloc, old, &book);
-            drop(book);
+        Outcome::Accepted(database) => {
+            let reply = changes_reply(alloc, old, old_homes, &database.checked, &database.homes);
+            drop(database);
             reply
         }
         Outcome::Refused(reply) => Ok(reply),
@@ -224,13 +261,14 @@ fn reply_beside(
 
 /// The reply that tells what changed from the old files to the new ones, both of which are checked
 /// first: a line `G LABEL` for each assertion that is gone, in the order of the old database, then
-/// `A LABEL` for each that was added and `C LABEL` for each that says something else, in the order
-/// of the new one, and a line with the sums. The status is 0 where nothing changed, else 1.
+/// `A LABEL` for each that was added, `C LABEL` for each that says something else and `P LABEL` for
+/// each that says the same, but whose proof spells another tree, in the order of the new one, and a
+/// line with the sums. The status is 0 where nothing changed, else 1.
 ///
 /// An assertion says something else where its kind or expression is another, an expression or the
 /// kind of a mandatory hypothesis, or a mandatory distinct pair. Labels of hypotheses don't count.
-/// Where the old files don't get yes, the reply is that of `check` for them; where the new ones
-/// don't, for those.
+/// Trees are compared by the labels of their steps. Where the old files don't get yes, the reply is
+/// that of `check` for them; where the new ones don't, for those.
 pub fn diff_reply(
     alloc: Global,
     seed: Seed,
@@ -242,9 +280,16 @@ pub fn diff_reply(
         (map plain_file new.now) reply.text.items (number_of reply.status)) }
 {
     match outcome_of(alloc, seed, profile, old)? {
-        Outcome::Accepted(book) => {
-            let reply = reply_beside(alloc, seed, profile, &book, new);
-            drop(book);
+        Outcome::Accepted(database) => {
+            let reply = reply_beside(
+                alloc,
+                seed,
+                profile,
+                &database.checked,
+                &database.homes,
+                new,
+            );
+            drop(database);
             reply
         }
         Outcome::Refused(reply) => Ok(reply),

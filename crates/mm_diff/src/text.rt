@@ -60,8 +60,10 @@ pub(crate) fn push_sums(
     gone: usize,
     added: usize,
     changed: usize,
+    reproved: usize,
 ) -> Result<(), AllocError>
-    ensures { OnOk result (out.new.items ≡ out.old.items ++ sums_line gone added changed) }
+    ensures { OnOk result (out.new.items
+        ≡ out.old.items ++ sums_line gone added changed reproved) }
 {
     out.extend_from_slice(b"differ")?;
     push_number(out, gone)?;
@@ -70,6 +72,8 @@ pub(crate) fn push_sums(
     push_word(out, b"added")?;
     push_number(out, changed)?;
     push_word(out, b"changed")?;
+    push_number(out, reproved)?;
+    push_word(out, b"reproved")?;
     out.push(b'\n')?;
     Ok(())
 }

@@ -98,8 +98,8 @@ Commands:
   diff OLD NEW
   diff OLD.. -- NEW..
                          checks two versions of a database, each in one file or in several, and
-                         lists the axioms and theorems that are gone, were added or say something
-                         else
+                         lists the axioms and theorems that are gone, were added, say something
+                         else or have another proof
   explain [CODE]         says what the rule with this code is, its usual cause and the remedy; a
                          reply line that names one, pasted, does as well; without a code, lists all
                          codes
@@ -226,10 +226,10 @@ Replies of try, on standard output:
       what explains it, or what is on the stack, follows. Status 1; 3 for A3; 4 for L1 and F3.
 
 Replies of diff, on standard output:
-  G LABEL, A LABEL or C LABEL, one on each line
+  G LABEL, A LABEL, C LABEL or P LABEL, one on each line
       The axioms and theorems that are gone, then those that were added, then those that say
-      something else. At the end differ N gone N added N changed, their sums. Status 0 where nothing
-      differs, else 1.
+      something else, then those that have another proof. At the end their sums: differ N gone
+      N added N changed N reproved. Status 0 where nothing differs, else 1.
   Where a version doesn't get yes: the reply of check, with its status; the old one comes first.
 
 Other replies to a LABEL: that of check, where it is no, limit or load; and

@@ -1,16 +1,17 @@
 -- Two versions as they are read, and what is told of them. Begin with `diff_over`.
-use Rattle.std.proofs.Common.{◌≡◌, ℕ, ◌≤◌, List, length}
+use Rattle.std.proofs.Common.{◌≡◌, ℕ, ◌≤◌, List, length, map, take}
 use Rattle.std.proofs.Common.{Result, Ok, Err, IfOk, IfErr, OnOk, OnErr}
-use Rattle.std.proofs.Common.{Option, None, inl, inr, refl, sym, ap, subst, ◌∙◌, arith}
+use Rattle.std.proofs.Common.{Option, None, inl, inr, refl, sym, subst, ◌∙◌, arith}
 use Rattle.std.specs.List.{AllZip}
 use Rattle.mm_base.specs.MostBytes.{most_bytes}
 use Rattle.mm_base.specs.Statement.{PlainStatement}
-use Rattle.mm_text.specs.Alike.{AreAlike}
+use Rattle.mm_text.specs.Alike.{AreAlike, statement_on}
 use Rattle.mm_text.specs.Files.{PlainFile, total_bytes}
 use Rattle.mm_text.specs.Included.{AlikeFilesLeaveOutTheSame}
 use Rattle.mm_text.specs.LineNumbers.{feeds_in}
 use Rattle.mm_text.specs.Reading.{Reads}
 use Rattle.mm_text.proofs.Alike.AlikeItems.{alike_files_are_read_alike}
+use Rattle.mm_frame.proofs.Names.NameNumbers.{get_alike}
 use Rattle.mm_step.specs.declared.fault.ProofRule.TheVariants.{L1}
 use Rattle.mm_step.specs.declared.profile.Profile.{Profile}
 use Rattle.mm_step.specs.declared.profile.Profile.TheVariants.{Lenient}
@@ -20,11 +21,13 @@ use Rattle.mm_rules.specs.declared.rule.Rule.{Rule}
 use Rattle.mm_rules.specs.declared.rule.Rule.TheVariants as rules
 use Rattle.mm_verdict.specs.Reply.{refusal_status, status_of, text_of}
 use Rattle.mm_verdict.proofs.Verdicts.AcceptedStatements.{same_reading}
-use Rattle.mm_diff.specs.Diff.{TellsChanges}
+use Rattle.mm_verdict.proofs.FileBytes.StatementsInFiles.{alike_at, tree_carried, Carries}
+use Rattle.mm_diff.specs.Laws.{HaveSameTrees}
 use Rattle.mm_diff.specs.Reply.{AreRefused, HaveYes, IsDiffReply, IsRefusal, IsReplyBeside}
+use Rattle.mm_diff.proofs.DiffLaws.{tells_carried}
 use Rattle.mm_check.specs.Alike.{AlikeFilesHaveOneReply}
 use Rattle.mm_check.specs.Reply.{IsReply}
-use Rattle.mm_check.proofs.AlikeVerdicts.{same_sentences}
+use Rattle.mm_check.proofs.AlikeVerdicts.{same_proof, same_sentence, same_sentences}
 use Rattle.mm_tool.proofs.FilesRead.{alike_files, fewer_bytes, files_noted_over, same_files}
 use Rattle.mm_text.specs.declared.counted.Counted.{Counted}
 use Rattle.mm_tool.specs.Answer.{Outcome, outcome_of}
@@ -81,6 +84,30 @@ refuses (Refused refused) other = tt
 refuses (Incomplete labels) other = tt
 refuses (Yes count proofs) other = absurd (other refl)
 
+-- Statements that differ in positions alone say the same, and their proofs spell the same trees.
+carries_alike : (h k : ℕ → ℕ → ℕ) (ss us : List PlainStatement)
+    → map (statement_on h) ss ≡ map (statement_on k) us → Carries ss us
+carries_alike h k ss us is = record {
+  told = same_sentences h k ss us is;
+  at = λ index s there.
+      let (t, at, same) = get_alike (statement_on h) (statement_on k) ss us index s is there in (
+        t,
+        at,
+        alike_at (sentences (take index ss)) s t (same_sentence h k s t (sym same))
+            (same_proof h k s t (sym same)),
+      );
+}
+
+trees_alike : (h k : ℕ → ℕ → ℕ) (ss us : List PlainStatement)
+    → map (statement_on h) ss ≡ map (statement_on k) us → HaveSameTrees ss us
+trees_alike h k ss us is = record {
+  said = same_sentences h k ss us is;
+  trees = λ id index t. (
+    tree_carried ss us id index t (carries_alike h k ss us is),
+    tree_carried us ss id index t (carries_alike k h us ss (sym is)),
+  );
+}
+
 module _ (law : AlikeFilesHaveOneReply) (profile : Profile) (files others : List PlainFile)
     (alike : AllZip AreAlike files others) (small : total_bytes files ≤ most_bytes)
     (short : total_bytes others ≤ most_bytes) where
@@ -110,7 +137,7 @@ module _ (law : AlikeFilesHaveOneReply) (profile : Profile) (files others : List
   yes_of : (statements : List PlainStatement) → Reads files statements None → (verdict : Verdict)
       → HasVerdict profile others verdict → status_of verdict ≡ 0
       → (same : List PlainStatement) × HaveYes profile others same
-      × (sentences statements ≡ sentences same)
+      × HaveSameTrees statements same
   yes_of statements reads (Load rule) holds is = absurd (omega arith)
   yes_of statements reads (Refused refused) holds is =
       absurd (refused_not_done refused.rule is)
@@ -120,14 +147,14 @@ module _ (law : AlikeFilesHaveOneReply) (profile : Profile) (files others : List
       let one = (same_reading others read.same same read.end None read.reads accepted.reads).0 in (
         same,
         (accepted, proved),
-        same_sentences (feeds_in files) (feeds_in others) statements read.same read.spelled
-            ∙ ap sentences one,
+        subst (λ (ss : List PlainStatement). HaveSameTrees statements ss) one
+            (trees_alike (feeds_in files) (feeds_in others) statements read.same read.spelled),
       )
 
-  -- Others that show the same get yes too, and their statements say the same.
+  -- Others that show the same get yes too, and their statements say the same, with the same trees.
   yes_alike : (statements : List PlainStatement) → HaveYes profile files statements
       → (same : List PlainStatement) × HaveYes profile others same
-      × (sentences statements ≡ sentences same)
+      × HaveSameTrees statements same
   yes_alike statements (accepted, proved) =
       let verdict : Verdict = Yes (length statements) (proofs_of statements) in
       let reply : IsReply profile files (text_of files verdict) 0 = record {
@@ -146,18 +173,15 @@ module _ (law : AlikeFilesHaveOneReply) (profile : Profile) (old olds new news :
     (short : total_bytes olds ≤ most_bytes) (alike_too : AllZip AreAlike new news)
     (small_too : total_bytes new ≤ most_bytes) (short_too : total_bytes news ≤ most_bytes)
     (text : List ℕ) (status : ℕ) where
-  beside_alike : (before : _) → IsReplyBeside profile before new text status
-      → IsReplyBeside profile before news text status
-  beside_alike before (inl refused) =
+  beside_alike : (before befores : List PlainStatement) → HaveSameTrees before befores
+      → IsReplyBeside profile before new text status
+      → IsReplyBeside profile befores news text status
+  beside_alike before befores own (inl refused) =
       inl (refused_alike law profile new news alike_too small_too short_too text status refused)
-  beside_alike before (inr (after, whole, tells)) =
+  beside_alike before befores own (inr (after, whole, tells)) =
       let (same, got, says) =
       yes_alike law profile new news alike_too small_too short_too after whole in
-      inr (
-        same,
-        got,
-        subst (λ ss. TellsChanges before ss text status) says tells,
-      )
+      inr (same, got, tells_carried before befores after same text status own says tells)
 
   -- Of versions that show the same, the same is told.
   diff_alike : IsDiffReply profile old new text status → IsDiffReply profile olds news text status
@@ -165,12 +189,7 @@ module _ (law : AlikeFilesHaveOneReply) (profile : Profile) (old olds new news :
       inl (refused_alike law profile old olds alike small short text status refused)
   diff_alike (inr (before, whole, beside)) =
       let (same, got, says) = yes_alike law profile old olds alike small short before whole in
-      inr (
-        same,
-        got,
-        subst (λ ss. IsReplyBeside profile ss news text status) says
-            (beside_alike (sentences before) beside),
-      )
+      inr (same, got, beside_alike before same says beside)
 
 -- ==== what is told of files as they were read is told of the whole ones
 

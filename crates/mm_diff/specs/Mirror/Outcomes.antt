@@ -7,14 +7,23 @@ use Rattle.mm_step.specs.declared.profile.Profile.{Profile}
 use Rattle.mm_rules.specs.Status.{number_of}
 use Rattle.mm_rules.specs.Verdict.{sentences}
 use Rattle.mm_diff.specs.Reply.{AreRefused, HaveYes}
+use Rattle.mm_diff.specs.Mirror.Databases.{IsComplete}
+use Rattle.mm_diff.specs.declared.database.Database.{Database}
 use Rattle.mm_diff.specs.declared.reply.Outcome.{Outcome}
 use Rattle.mm_diff.specs.declared.reply.Outcome.TheVariants.{Accepted, Refused}
 
--- The book has what the statements of the files say, each proof of which is accepted; or this is
--- the reply of `check`.
+-- the database is that of the files, which get yes
+pub record IsOfFiles (profile : Profile) (files : List PlainFile)
+    (database : Database) : Type 0 where
+  pub statements : List PlainStatement
+  pub yes : HaveYes profile files statements
+  pub kept : database.checked.files ≡ files
+  pub told : database.checked.sentences ≡ sentences statements
+  pub complete : IsComplete database.checked database.homes.items
+
+-- The database is that of the files, each proof of which is accepted; or this is the reply of
+-- `check`.
 abbrev pub IsOutcome : Profile → List PlainFile → Outcome → Type 0
-IsOutcome profile files (Accepted book) =
-    (statements : List PlainStatement) × HaveYes profile files statements
-    × (book.statements ≡ sentences statements)
+IsOutcome profile files (Accepted database) = IsOfFiles profile files database
 IsOutcome profile files (Refused reply) =
     AreRefused profile files reply.text.items (number_of reply.status)

@@ -19,9 +19,16 @@ th1 $p |- p -> p $= wp ax2 $.
 /// The reply to a database with the unknown label in its first proof, under the name old.mm.
 const OLD_FAULT: &[u8] = b"no old.mm 1 p P2 0\n";
 
-/// A new version of it, what is told of that, and the status.
+/// A theorem of two steps that share one, in the fewest letters.
+const SHARED: &[u8] = b"$c c $. x $a c $. ${ f $e c $. a $a c $. $}
+${ g $e c $. h $e c $. b $a c $. $}
+th $p c $= ( x a b ) ABZDC $.
+";
+
+/// Two versions, what is told of them, and the status.
 #[derive(Clone, Copy)]
 struct Version {
+    old: &'static [u8],
     new: &'static [u8],
     text: &'static [u8],
     status: Status,
@@ -31,7 +38,7 @@ struct Version {
 fn is_told(alloc: Global, version: &Version) -> Result<bool, Fail> {
     let old = [File {
         name: b"old.mm",
-        bytes: OLD,
+        bytes: version.old,
     }];
     let new = [File {
         name: b"new.mm",
@@ -45,12 +52,14 @@ fn is_told(alloc: Global, version: &Version) -> Result<bool, Fail> {
 fn tells_versions(rt: HostRuntime) -> Result<(), Fail> {
     for version in [
         Version {
+            old: OLD,
             new: OLD,
-            text: b"differ 0 gone 0 added 0 changed\n",
+            text: b"differ 0 gone 0 added 0 changed 0 reproved\n",
             status: Status::Done,
         },
         // Neither a new label of a hypothesis nor the order of a pair counts, nor a new proof's text.
         Version {
+            old: OLD,
             new: b"$c |- wff -> $. $v q p $. wp $f wff p $. vq $f wff q $.
 ${ mi $e |- p $. ma $e |- p -> q $. mp $a |- q $. $}
 wi $a wff p -> q $.
@@ -58,17 +67,19 @@ ${ $d q p $. ax1 $a |- p -> q $. $}
 ax2 $a |- p -> p $.
 th1 $p |- p -> p $= ( ax2 ) AB $.
 ",
-            text: b"differ 0 gone 0 added 0 changed\n",
+            text: b"differ 0 gone 0 added 0 changed 0 reproved\n",
             status: Status::Done,
         },
         // A version that isn't finished isn't compared.
         Version {
+            old: OLD,
             new: b"$c -> wff |- $. $v p q $. wp $f wff p $. th1 $p |- p -> p $= ? $.\n",
             text: b"incomplete 1\nth1\n",
             status: Status::Incomplete,
         },
         // The order of `$f` is that of what a step asks for: so wi is another, and so are all.
         Version {
+            old: OLD,
             new: b"$c -> wff |- $. $v p q $. wq $f wff q $. wp $f wff p $.
 wi $a wff p -> q $.
 ${ min $e |- p $. maj $e |- p -> q $. mp $a |- q $. $}
@@ -76,11 +87,12 @@ ${ $d p q $. ax1 $a |- p -> q $. $}
 ax2 $a |- p -> p $.
 th1 $p |- p -> p $= wp ax2 $.
 ",
-            text: b"C wi\nC mp\nC ax1\ndiffer 0 gone 0 added 3 changed\n",
+            text: b"C wi\nC mp\nC ax1\ndiffer 0 gone 0 added 3 changed 0 reproved\n",
             status: Status::Refused,
         },
         // One is gone, two are added, and each of the others is changed in another way.
         Version {
+            old: OLD,
             new: b"$c -> wff |- $. $v p q $. wp $f wff p $. wq $f wff q $.
 wj $a wff p -> q $.
 ${ min $e |- q $. maj $e |- p -> q $. mp $a |- q $. $}
@@ -89,10 +101,11 @@ ax2 $a |- q -> q $.
 th1 $a |- p -> p $.
 th2 $p |- q -> q $= wq ax2 $.
 ",
-            text: b"G wi\nA wj\nA th2\nC mp\nC ax1\nC ax2\nC th1\ndiffer 1 gone 2 added 4 changed\n",
+            text: b"G wi\nA wj\nA th2\nC mp\nC ax1\nC ax2\nC th1\ndiffer 1 gone 2 added 4 changed 0 reproved\n",
             status: Status::Refused,
         },
         Version {
+            old: OLD,
             new: b"$c a $. th1 $p a $= no $.\n",
             text: b"no new.mm 1 th1 P2 0\n",
             status: Status::Refused,
@@ -101,6 +114,61 @@ th2 $p |- q -> q $= wq ax2 $.
         assert!(rt; is_told(rt.alloc(), &version)?);
     }
     no_change();
+    Ok(())
+}
+
+#[test]
+fn tells_other_proofs(rt: HostRuntime) -> Result<(), Fail> {
+    for version in [
+        // Another assertion proves it; and a hypothesis that its proof names has another label.
+        Version {
+            old: OLD,
+            new: b"$c -> wff |- $. $v p q $. vp $f wff p $. wq $f wff q $.
+wi $a wff p -> q $.
+${ min $e |- p $. maj $e |- p -> q $. mp $a |- q $. $}
+${ $d p q $. ax1 $a |- p -> q $. $}
+ax2 $a |- p -> p $. ax3 $a |- p -> p $.
+th1 $p |- p -> p $= vp ax3 $.
+",
+            text: b"A ax3\nP th1\ndiffer 0 gone 1 added 0 changed 1 reproved\n",
+            status: Status::Refused,
+        },
+        // Neither form nor sharing counts, nor comments in a proof, nor numbers of labels.
+        Version {
+            old: SHARED,
+            new: b"$c c $. ${ f $e c $. a $a c $. $} x $a c $.
+${ g $e c $. h $e c $. b $a c $. $}
+th $p c $= x $( a $) a x a b $.
+",
+            text: b"differ 0 gone 0 added 0 changed 0 reproved\n",
+            status: Status::Done,
+        },
+        // Another step is shared.
+        Version {
+            old: SHARED,
+            new: b"$c c $. x $a c $. ${ f $e c $. a $a c $. $}
+${ g $e c $. h $e c $. b $a c $. $}
+th $p c $= ( x a b ) AZBDC $.
+",
+            text: b"P th\ndiffer 0 gone 0 added 0 changed 1 reproved\n",
+            status: Status::Refused,
+        },
+        // The same labels in the same order make another tree.
+        Version {
+            old: b"$c c $. x $a c $. ${ f $e c $. a $a c $. $}
+${ g $e c $. h $e c $. b $a c $. $}
+th $p c $= x x a b $.
+",
+            new: b"$c c $. x $a c $. ${ f $e c $. g $e c $. a $a c $. $}
+${ h $e c $. b $a c $. $}
+th $p c $= x x a b $.
+",
+            text: b"C a\nC b\nP th\ndiffer 0 gone 0 added 2 changed 1 reproved\n",
+            status: Status::Refused,
+        },
+    ] {
+        assert!(rt; is_told(rt.alloc(), &version)?);
+    }
     Ok(())
 }
 

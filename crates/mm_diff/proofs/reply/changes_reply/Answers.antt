@@ -1,13 +1,18 @@
 -- What changed, and its text.
-use Rattle.std.proofs.Common.{map}
+use Rattle.std.proofs.Common.{ap, map, subst}
+use Rattle.mm_rules.specs.Conclusion.{Conclusion}
+use Rattle.mm_verdict.proofs.Verdicts.AcceptedStatements.{KeptWell}
+use Rattle.mm_diff.proofs.DiffReplies.{reply_told}
 use Rattle.mm_diff.proofs.reply.changes_reply.Goals as goal
 
 pub returns : goal.returns
-returns c = record {
-  gone = map (λ l. l.0) c.in_ok-changes.changes.gone.items;
-  added = map (λ l. l.0) c.in_ok-changes.changes.added.items;
-  changed = map (λ l. l.0) c.in_ok-changes.changes.changed.items;
-  changes = c.in_ok-changes.ensures.changes;
-  said = c.in_ok-text.ensures;
-  ends = c.changes_status.ensures;
-}
+returns c =
+    let here = ap (λ (v : Conclusion). v.sentences) c.old.view_is in
+    let there = ap (λ (v : Conclusion). v.sentences) c.new.view_is in
+    reply_told c.args.old.now c.args.new.now (map (λ l. l.0) c.in_ok-changes.changes.gone.items)
+    (map (λ l. l.0) c.in_ok-changes.changes.added.items)
+    (map (λ l. l.0) c.in_ok-changes.changes.changed.items)
+    (map (λ l. l.0) c.in_ok-changes.changes.reproved.items) c.in_ok-text.text.items _
+    (subst KeptWell c.old.view_is c.old.invariant) (subst KeptWell c.new.view_is c.new.invariant)
+    c.in_ok-changes.ensures.changes (rw (here, there) at c.in_ok-text.ensures)
+    c.changes_status.ensures

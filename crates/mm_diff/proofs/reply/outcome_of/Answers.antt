@@ -8,7 +8,8 @@ use Rattle.mm_diff.proofs.reply.outcome_of.Goals as goal
 pub returns-in-Ok : goal.returns-in-Ok
 returns-in-Ok c =
     IfOk-weaker c.outcome_of_checked.result _ _
-    (λ outcome told. told c.args.profile c.in-Ok.ensures.verdict c.in-Ok.ensures.uses)
+    (λ outcome told. told c.args.profile c.in-Ok.ensures.verdict c.in-Ok.ensures.uses
+    c.in-Ok.ensures.files)
     c.outcome_of_checked.ensures
 
 pub returns-in_ok-reply-in-Err : goal.returns-in_ok-reply-in-Err
