@@ -1,3 +1,4 @@
-pub mod AlikeVerdicts
+pub mod AlikeReplies
 pub mod KnownSteps
 pub mod AnswersTold
+pub mod OwnProofs

@@ -3,3 +3,4 @@ pub mod Chain
 pub mod Asked
 pub mod Alike
 pub mod Alone
+pub mod AloneLaws

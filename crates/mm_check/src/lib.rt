@@ -17,7 +17,7 @@ mod question;
 mod stated;
 mod whole;
 
-pub use alike::alike_files_have_one_reply;
+pub use alike::{alike_files_have_one_reply, own_proof_is_tried_alike};
 pub use command::{RunFault, reply_to, run};
 pub use mm_frame::LabelId;
 pub use mm_verdict::{Command, LoneQuestion, Question, WholeQuestion};

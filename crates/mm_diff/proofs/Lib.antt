@@ -3,7 +3,7 @@ pub mod ComparedNames
 pub mod ComparedPairs
 pub mod ComparedFrames
 pub mod DifferingNumbers
-pub mod LabelWidths
+pub mod WidthsInBoth
 pub mod TreesOfBoth
 pub mod SharedTrees
 pub mod ProofWords

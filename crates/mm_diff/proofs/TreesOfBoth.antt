@@ -20,7 +20,7 @@ use Rattle.mm_forms.proofs.FullSharing.OneSharing.{shared_once}
 use Rattle.mm_forms.proofs.PackedProofs.SubtreeNumbers.{one_label_of}
 use Rattle.mm_forms.proofs.TreeBuilding.TreeWords.{fit_apart, fit_beside, made_word}
 use Rattle.mm_diff.specs.Mirror.Steps.{AreSameMoves, IsSameMove, MakeTreeInBoth}
-use Rattle.mm_diff.proofs.LabelWidths.{stands_width, width_stands}
+use Rattle.mm_diff.proofs.WidthsInBoth.{stands_width, width_stands}
 
 -- ---- rows of trees
 

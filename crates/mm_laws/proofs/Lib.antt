@@ -1,2 +1,1 @@
-pub mod OwnProofs
 pub mod SavingLaws

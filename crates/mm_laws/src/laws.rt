@@ -5,7 +5,6 @@ ghost use Rattle.mm_laws.specs.AllSavedLaws.{OneAllSaved, SavingAllAgainChangesN
 ghost use Rattle.mm_laws.specs.AllSavedLaws.{AllSmallFilesDoNotGrow};
 ghost use Rattle.mm_laws.specs.AllShorterLaws.{ShorteningChangesNoVerdict};
 ghost use Rattle.mm_laws.specs.AllShorterLaws.{ShortenedFilesDoNotGrow};
-ghost use Rattle.mm_laws.specs.AloneLaws.{OwnProofIsTriedAlike};
 ghost use Rattle.mm_verdict.specs.FaultLaws.{FirstFaultIsTold};
 ghost use Rattle.mm_laws.specs.FormLaws.{PackedTextsTell};
 ghost use Rattle.mm_verdict.specs.Laws.{OneVerdict, SomeVerdict, BetweenProfiles, OneReport};
@@ -35,13 +34,6 @@ pub fn between_profiles()
 /// where the verdict tells none, so where it is yes, or that proofs are incomplete.
 pub fn first_fault_is_told()
     ensures { FirstFaultIsTold }
-{}
-
-/// What is told of a theorem's own proof, and what is told of a text with the same tokens, agree:
-/// that it is a proof; that it is incomplete, and breaks no rule as far as it is known; or its
-/// first fault, at its step.
-pub fn own_proof_is_tried_alike()
-    ensures { OwnProofIsTriedAlike }
 {}
 
 /// What a theorem rests on is told in one way: two reports over statements that obey the rules,

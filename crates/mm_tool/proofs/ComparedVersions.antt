@@ -27,7 +27,7 @@ use Rattle.mm_diff.specs.Reply.{AreRefused, HaveYes, IsDiffReply, IsRefusal, IsR
 use Rattle.mm_diff.proofs.DiffLaws.{tells_carried}
 use Rattle.mm_check.specs.Alike.{AlikeFilesHaveOneReply}
 use Rattle.mm_check.specs.Reply.{IsReply}
-use Rattle.mm_check.proofs.AlikeVerdicts.{same_proof, same_sentence, same_sentences}
+use Rattle.mm_verdict.proofs.AlikeVerdicts.{same_proof, same_sentence, same_sentences}
 use Rattle.mm_tool.proofs.FilesRead.{alike_files, fewer_bytes, files_noted_over, same_files}
 use Rattle.mm_text.specs.declared.counted.Counted.{Counted}
 use Rattle.mm_tool.specs.Answer.{Outcome, outcome_of}

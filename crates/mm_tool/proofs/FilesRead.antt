@@ -32,7 +32,7 @@ use Rattle.mm_text.specs.declared.fault.LoadRule.{LoadRule}
 use Rattle.mm_base.specs.declared.file.File.{File}
 use Rattle.mm_text.specs.Included.{AlikeFilesLeaveOutTheSame, is_left_out, left_out}
 use Rattle.mm_base.proofs.Lists.{all_at, all_weaker}
-use Rattle.mm_check.proofs.AlikeVerdicts.{alike_back, breaks_alike, name_alike}
+use Rattle.mm_verdict.proofs.AlikeVerdicts.{alike_back, breaks_alike, name_alike}
 use Rattle.mm_tool.specs.Ending.{AreAllNotes, label_of}
 use Rattle.mm_explain.specs.Near.{IsLabelIn}
 use Rattle.mm_tool.specs.Notes.{AreLeftOut, AreNotesBeside, AreNotesOn, IsNearLine, near_line}

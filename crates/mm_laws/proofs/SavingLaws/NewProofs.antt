@@ -20,7 +20,7 @@ use Rattle.mm_rules.specs.Verdict.{proof_of, is_proof, is_unproved, label_of, un
 use Rattle.mm_rules.specs.Rests.{tree_of}
 use Rattle.mm_laws.specs.SavedLaws.{SayTheSame}
 use Rattle.mm_verdict.proofs.Questions.AskedTheorems.{same_tree}
-use Rattle.mm_check.proofs.AlikeVerdicts.{same_sentence, same_proof, obeys_alike}
+use Rattle.mm_verdict.proofs.AlikeVerdicts.{same_sentence, same_proof, obeys_alike}
 use Rattle.mm_verdict.proofs.Verdicts.StatementByStatement.{any_proof, proof_not_unproved}
 use Rattle.mm_laws.proofs.SavingLaws.OtherStatements.{AllAlong, along_at, along_from}
 use Rattle.mm_verdict.proofs.FileBytes.StatementsInFiles.{nowhere, IsNewProof, AreAlikeAt, alike_at, Carries}

@@ -7,7 +7,7 @@ use Rattle.mm_text.specs.Replaced.{placeless}
 use Rattle.mm_base.proofs.Lists.{cons_parts}
 use Rattle.mm_frame.specs.Sentence.{Sentence, sentence_of}
 use Rattle.mm_rules.specs.Verdict.{sentences}
-use Rattle.mm_check.proofs.AlikeVerdicts.{same_sentence}
+use Rattle.mm_verdict.proofs.AlikeVerdicts.{same_sentence}
 use Rattle.mm_verdict.proofs.FileBytes.StatementsInFiles.{nowhere}
 
 -- each is, behind those before it

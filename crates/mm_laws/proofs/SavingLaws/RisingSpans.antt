@@ -7,7 +7,7 @@ use Rattle.mm_base.specs.Statement.{PlainStatement, is_provable}
 use Rattle.mm_text.specs.Replaced.{placeless, IsMoved}
 use Rattle.mm_proof.specs.Tokens.{is_incomplete}
 use Rattle.mm_save.specs.AllSaved.{is_theorem_of, theorems_of}
-use Rattle.mm_check.proofs.AlikeVerdicts.{same_sentence, same_proof}
+use Rattle.mm_verdict.proofs.AlikeVerdicts.{same_sentence, same_proof}
 use Rattle.mm_verdict.proofs.FileBytes.StatementsInFiles.{nowhere, provable_proof, within_bytes}
 use Rattle.mm_base.specs.declared.statement.Kind.TheVariants.{Provable}
 use Rattle.mm_text.specs.Files.{PlainFile}

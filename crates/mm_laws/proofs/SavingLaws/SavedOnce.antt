@@ -33,7 +33,7 @@ use Rattle.mm_render.specs.Saved.{IsSpanText, within_span, IsSaved, FitsSaved}
 use Rattle.mm_laws.specs.SavedLaws.{SavingChangesNoAnswer, SavedProofIsStrict, OneSaved}
 use Rattle.mm_laws.specs.SavedLaws.{SavingAgainChangesNothing, IsKeptProof}
 use Rattle.mm_laws.specs.SavedLaws.{SmallFilesDoNotGrow}
-use Rattle.mm_check.proofs.AlikeVerdicts.{moved}
+use Rattle.mm_verdict.proofs.AlikeVerdicts.{moved}
 use Rattle.mm_verdict.proofs.Verdicts.AcceptedStatements.{same_reading, said_there}
 use Rattle.mm_verdict.proofs.FileBytes.StatementsInFiles.{provable_proof, readable_anew, handed_anew, Carries}
 use Rattle.mm_verdict.proofs.FileBytes.StatementsInFiles.{prefix_meant, prefix_told}

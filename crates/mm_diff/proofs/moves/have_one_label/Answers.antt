@@ -1,5 +1,5 @@
 -- By the bytes of the labels.
-use Rattle.mm_diff.proofs.LabelWidths.{one_label_told}
+use Rattle.mm_diff.proofs.WidthsInBoth.{one_label_told}
 use Rattle.mm_diff.proofs.moves.have_one_label.Goals as goal
 
 pub returns : goal.returns

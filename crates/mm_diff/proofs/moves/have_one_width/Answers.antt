@@ -1,7 +1,7 @@
 -- By the numbers.
 use Rattle.std.proofs.Common.{eq-eqb}
 use Rattle.std.proofs.lemmas.Bool.{eqb-true}
-use Rattle.mm_diff.proofs.LabelWidths.{one_width_told}
+use Rattle.mm_diff.proofs.WidthsInBoth.{one_width_told}
 use Rattle.mm_diff.proofs.moves.have_one_width.Goals as goal
 
 pub returns : goal.returns

@@ -2,7 +2,7 @@
 use Rattle.std.proofs.Common.{inl, inr, refl}
 use Rattle.mm_base.specs.declared.statement.Kind.TheVariants.{Floating, Essential, Axiom, Provable}
 use Rattle.mm_diff.proofs.DifferingNumbers.{asserts_by}
-use Rattle.mm_diff.proofs.LabelWidths.{no_width}
+use Rattle.mm_diff.proofs.WidthsInBoth.{no_width}
 use Rattle.mm_diff.proofs.moves.width.Goals as goal
 
 pub hypothesis_count-requires : goal.hypothesis_count-requires

@@ -1,8 +1,8 @@
--- Files that show the same have the same verdict, and so the same reply.
+-- Files that show the same have the same verdict.
 use Rattle.std.proofs.Common.{◌≡◌, ℕ, zero, suc, ◌+◌, ◌≤◌, ◌<◌, List, [], ◌∷◌, ◌++◌, map, length}
-use Rattle.std.proofs.Common.{filter, fold, flat_map, decimal, codes, slice_get, Bool, true, false}
+use Rattle.std.proofs.Common.{filter, fold, flat_map, slice_get, Bool, true, false}
 use Rattle.std.proofs.Common.{cond, not, ◌&&◌, Option, Some, None, option_map, option_to_list}
-use Rattle.std.proofs.Common.{unwrap_or, ◌⊎◌, inl, inr, refl, sym, ap, subst, ◌∙◌, arith}
+use Rattle.std.proofs.Common.{◌⊎◌, inl, inr, refl, sym, ap, subst, ◌∙◌, arith}
 use Rattle.std.specs.List.{AllZip}
 use Rattle.mm_text.specs.declared.fault.LoadRule.{LoadRule}
 use Rattle.mm_base.specs.Token.{PlainToken}
@@ -27,10 +27,7 @@ use Rattle.mm_rules.specs.Verdict.{HasVerdict, Obeys, AllObey, RefusesStatement,
 use Rattle.mm_rules.specs.Verdict.{AreAccepted, CanBeRead, sentences, proof_of, is_proof}
 use Rattle.mm_rules.specs.Verdict.{is_unproved, label_of, unproved_of, proofs_of, refusal_of}
 use Rattle.mm_rules.specs.Verdict.{text_refusal}
-use Rattle.mm_verdict.specs.Reply.{text_of, status_of, line_with, refusal_word}
 use Rattle.mm_rules.specs.Places.{name_of}
-use Rattle.mm_rules.specs.RuleCodes.{code_of}
-use Rattle.mm_check.specs.Alike.{AlikeFilesHaveOneReply}
 use Rattle.mm_base.proofs.Lists.{cons_split, append_split, same_length, unmapped}
 use Rattle.mm_text.specs.declared.fault.LoadRule.TheVariants as load
 use Rattle.mm_rules.specs.declared.rule.Rule.TheVariants as rules
@@ -306,16 +303,16 @@ accepted_alike profile law files others alike small statements accepted =
     )
 
 -- a verdict without the position of its refusal
-abbrev verdict_without_at : Verdict → Verdict
+abbrev pub verdict_without_at : Verdict → Verdict
 verdict_without_at (Refused refusal) = Refused (without_at refusal)
 verdict_without_at verdict = verdict
 
 -- another verdict is the same, but for that
-abbrev IsSameVerdict : (Verdict → Type 0) → Verdict → Type 0
+abbrev pub IsSameVerdict : (Verdict → Type 0) → Verdict → Type 0
 IsSameVerdict Holds verdict =
     (other : Verdict) × Holds other × (verdict_without_at verdict ≡ verdict_without_at other)
 
-verdict_alike : (profile : Profile) → AlikeFilesAreReadAlike → (files others : List PlainFile) → AllZip AreAlike files others
+pub verdict_alike : (profile : Profile) → AlikeFilesAreReadAlike → (files others : List PlainFile) → AllZip AreAlike files others
     → total_bytes files ≤ most_bytes → total_bytes others ≤ most_bytes
     → (verdict : Verdict) → HasVerdict profile files verdict
     → IsSameVerdict (HasVerdict profile others) verdict
@@ -353,40 +350,3 @@ verdict_alike profile law files others alike small short (Yes count proofs) hold
       ),
       refl,
     )
-
--- ## The reply
-
--- the text of a verdict tells no more of the files than their names
-pub text_alike : (files others : List PlainFile) → AllZip AreAlike files others → (verdict : Verdict) → text_of files verdict ≡ text_of others verdict
-text_alike files others alike (Load rule) = refl
-text_alike files others alike (Refused r) =
-    ap (λ (name : List ℕ). line_with (refusal_word r.rule) (name ∷ decimal r.line ∷ unwrap_or r.label (codes "-") ∷ code_of r.rule ∷ decimal r.step ∷ []))
-    (name_alike files others alike r.file)
-text_alike files others alike (Incomplete labels) = refl
-text_alike files others alike (Yes statements proofs) = refl
-
--- nor the position of a refusal, and so it is with the status
-text_without_at : (files : List PlainFile) (verdict : Verdict) → text_of files verdict ≡ text_of files (verdict_without_at verdict)
-text_without_at files (Load rule) = refl
-text_without_at files (Refused r) = refl
-text_without_at files (Incomplete labels) = refl
-text_without_at files (Yes statements proofs) = refl
-
-status_without_at : (verdict : Verdict) → status_of verdict ≡ status_of (verdict_without_at verdict)
-status_without_at (Load rule) = refl
-status_without_at (Refused r) = refl
-status_without_at (Incomplete labels) = refl
-status_without_at (Yes statements proofs) = refl
-
-pub alike_files_have_one_reply : AlikeFilesAreReadAlike → AlikeFilesHaveOneReply
-alike_files_have_one_reply law profile files others alike small short text status reply =
-    let (other, holds, same) = verdict_alike profile law files others alike small short reply.verdict reply.holds in
-    record {
-      verdict = other;
-      holds = holds;
-      said = reply.said ∙ text_alike files others alike reply.verdict
-          ∙ text_without_at others reply.verdict ∙ ap (text_of others) same
-          ∙ sym (text_without_at others other);
-      ends = reply.ends ∙ status_without_at reply.verdict ∙ ap status_of same
-          ∙ sym (status_without_at other);
-    }

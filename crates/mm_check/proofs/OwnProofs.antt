@@ -22,7 +22,7 @@ use Rattle.mm_rules.specs.declared.rule.AskRule.TheVariants.{A3}
 use Rattle.mm_rules.specs.declared.rule.Rule.{Rule}
 use Rattle.mm_rules.specs.declared.rule.Rule.TheVariants as rules
 use Rattle.mm_verdict.specs.Alone.{BreaksTokens, HasProofTokens}
-use Rattle.mm_laws.specs.AloneLaws.{OwnProofIsTriedAlike, TellAlike}
+use Rattle.mm_check.specs.AloneLaws.{OwnProofIsTriedAlike, TellAlike}
 use Rattle.mm_facts.specs.Explained.{IsTokensFault}
 use Rattle.mm_check.specs.Reply.{IsKnownReply}
 use Rattle.mm_explain.specs.Reply.{IsTokensReply}
