@@ -40,7 +40,7 @@ def blocks(folder, size):
     write(folder, "proof.txt", "e0\n")
     write(folder, "wrong.txt", "fx fy\n")
     return [*asked(0, "check f.mm", "statement th f.mm", "show --uses th f.mm",
-                   "show --essential th f.mm", "show --known th f.mm", "users th f.mm",
+                   "show --essential th f.mm", "show --known --letters th f.mm", "users th f.mm",
                    "axioms --all f.mm", "why f.mm", "faults f.mm", "try th proof.txt f.mm",
                    "minimize th f.mm", "minimize --list f.mm"),
             *asked(1, "try th wrong.txt f.mm", "why bad.mm", "faults bad.mm",
@@ -61,7 +61,7 @@ def hypotheses(folder, size):
     write(folder, "wrong.mm", HEAD, axiom, theorem("o "))
     write(folder, "few.txt", "fx ", "k " * (size - 2), "big\n")
     return [*asked(0, "check f.mm", "statement big f.mm", "show --uses th f.mm",
-                   "show --essential th f.mm", "show --known th f.mm", "users big f.mm",
+                   "show --essential th f.mm", "show --known --letters th f.mm", "users big f.mm",
                    "minimize th f.mm"),
             *asked(1, "why few.mm", "why wrong.mm", "show --known th wrong.mm", "faults wrong.mm",
                    "try th few.txt f.mm")]

@@ -104,7 +104,7 @@ if has bash; then
     bash_offers files users --all th ''
     bash_offers nothing show t
     bash_offers nothing show --known t
-    bash_offers '--known --uses --essential --help' show --
+    bash_offers '--known --letters --uses --essential --help' show --
     for command in $commands; do
         bash_offers "$(echo $(options "$command"))" "$command" --
     done

@@ -347,9 +347,17 @@ ends 0 '1 nil e\n2 nil e\n3 cat e\n4 @3 e\n5 cat e\n' '' show th steps.mm
 ends 0 '1 - nil e\n2 - nil e\n3 1,2 cat e\n4 - @3 e\n5 3,3 cat e\n' '' show --uses th steps.mm
 ends 0 '5 - cat e\n' '' show --essential th steps.mm
 ends 1 'ask A2 tt\n' '' show --essential tt first.mm
-for flags in '--known --uses' '--known --essential' '--essential --uses'; do
-    ends 2 '' "mm: --known, --essential and --uses exclude each other
-Usage: mm show [--known | --essential | --uses] LABEL FILES..\n" show $flags th first.mm
+ends 0 '1 7:24 A nil e\n2 7:25 A nil e\n3 7:26 BZ cat e\n4 7:28 C @3 e\n5 7:29 B cat e\n' '' \
+    show --letters th steps.mm
+ends 0 '1 7:24 A nil e\n2 7:25 A nil e\n3 7:26 BZ cat e\n4 7:28 C @3 e\n5 7:29 B cat e\n' '' \
+    show --letters th steps.mm --known
+ends 0 '1 7:25 - tze term 0\n2 7:29 - tze term 0\n3 7:33 - tpl term ( 0 + 0 )\n' '' \
+    show --letters th first.mm
+ends 1 'ask A2 tt\n' '' show --letters tt first.mm
+for flags in '--known --uses' '--known --essential' '--essential --uses' '--letters --uses'; do
+    ends 2 '' "mm: --essential and --uses stand alone
+Usage: mm show [--known] [--letters] LABEL FILES..
+       mm show [--essential | --uses] LABEL FILES..\n" show $flags th first.mm
 done
 ends 0 '      ( nil cat )\n      AABZCB\n' '' packed th shared.mm
 ends 3 'incomplete 2\nu1\nu2\n' '' check unfinished.mm
@@ -474,6 +482,7 @@ misused try
 misused try th first.mm
 misused show --known th
 misused show --uses th
+misused show --letters th
 misused show --essential --essential th first.mm
 misused minimize --all --all first.mm first.mm
 misused minimize --list --list first.mm

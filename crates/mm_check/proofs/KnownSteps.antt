@@ -1,38 +1,37 @@
 -- Where the moves of a proof stop, and the lines of the steps before.
 use Rattle.std.proofs.Common.{◌≡◌, ℕ, ◌+◌, List, [], ◌∷◌, ◌++◌, length, take, Bool, true, false}
 use Rattle.std.proofs.Common.{Option, Some, None, inl, inr, refl, sym, ap, subst, ◌∙◌, append-nil}
-use Rattle.std.proofs.Common.{◌≤◌, arith}
-use Rattle.std.specs.List.{AllZip}
 use Rattle.mm_base.specs.Statement.{plain_statement}
 use Rattle.mm_text.specs.Files.{PlainFile}
 use Rattle.mm_frame.specs.Sentence.{Sentence, sentence_of}
 use Rattle.mm_step.specs.declared.fault.ProofRule.{ProofRule}
 use Rattle.mm_listing.specs.declared.halt.Halt.{Halt}
-use Rattle.mm_listing.specs.declared.lines.Line.{Line}
 use Rattle.mm_step.specs.declared.profile.Profile.{Profile}
 use Rattle.mm_step.specs.declared.profile.Profile.TheVariants.{Lenient}
 use Rattle.mm_listing.specs.Halted.{HaltsProof, StopsWith}
 use Rattle.mm_proof.specs.CheckedPrefix.{Pass}
-use Rattle.mm_listing.specs.Listing.{AreListed, ListedStep, TellsStep, AreLinesOf}
+use Rattle.mm_base.specs.Token.{PlainToken}
+use Rattle.mm_code.specs.Words.{texts_of}
+use Rattle.mm_verdict.specs.declared.question.Telling.{Telling}
 use Rattle.mm_step.specs.Moves.{Move, steps_in}
 use Rattle.mm_proof.specs.Parsed.{OfProof, SaySteps}
 use Rattle.mm_step.specs.Profiles.{limit_of}
 use Rattle.mm_step.specs.Proof.{IsWithin, Passed}
 use Rattle.mm_proof.specs.Proof.{IsMoveFault, IsMovesFault, Prove}
 use Rattle.mm_proof.specs.ReadSteps.{ReadSteps}
-use Rattle.mm_step.specs.Steps.{IsProofNumber, IsNumberedMove, AreSteps}
+use Rattle.mm_step.specs.Steps.{IsProofNumber}
 use Rattle.mm_step.specs.Substitution.{Expression}
 use Rattle.mm_proof.specs.Tokens.{is_incomplete, SayMoves}
 use Rattle.mm_proof.specs.Verified.{OfMoves}
 use Rattle.mm_proof.proofs.ProofVerdicts.PassedMoves.{prove_at_end}
 use Rattle.mm_facts.proofs.StepPlaces.{first_are}
 use Rattle.mm_check.specs.Alone.{AreStepsBefore}
+use Rattle.mm_check.specs.Told.{IsTextOfMoves, TellsMoves}
 use Rattle.mm_facts.specs.Explained.{judged_tokens}
 use Rattle.mm_facts.specs.Explained.{IsTokensFault}
 use Rattle.mm_explain.specs.declared.read_to.Reached.{Reached}
 use Rattle.mm_explain.specs.Mirror.Reached.{AreTried, HasReached, tried_as}
 use Rattle.mm_explain.proofs.LoneProofs.LoneTheorems.{reached_number}
-use Rattle.mm_render.specs.Shown.{IsListingText, listing_text}
 use Rattle.mm_explain.proofs.LoneProofs.TriedTokens.{judged_where, moves_fault, moves_tried, SayJudged}
 
 -- ---- why no more moves pass
@@ -100,11 +99,6 @@ module _ (before : List Sentence) (s : Sentence) (moves earlier : List (Move (Li
 
 -- ---- the lines before
 
--- the text is that of the steps that lines tell, whichever these are
-abbrev pub IsTextOfLines : List Sentence → List Line → List ℕ → Type 0
-IsTextOfLines st lines text =
-    (steps : List ListedStep) → AllZip (TellsStep st) lines steps → text ≡ listing_text steps
-
 module _ (st : List Sentence) (index : ℕ) (s : Sentence) (tokens : List (List ℕ))
     (moves : List (Move (List ℕ))) (b : Bool) (halt : Halt) (open_one : is_incomplete tokens ≡ b)
     (said : SayJudged (take index st) s (judged_where b tokens) moves)
@@ -126,21 +120,25 @@ module _ (st : List Sentence) (index : ℕ) (s : Sentence) (tokens : List (List 
       rw halted.steps (moves_fault before s tokens moves b open_one said rule
       (steps_in there.earlier + 1) fault.0 fault.1)
 
-  pub halt_shown : (lines : List Line) → AreLinesOf st before halted.there.earlier lines
-      → (text : List ℕ) → IsTextOfLines st lines text
-      → AreStepsBefore before s (judged_tokens tokens) (halt.steps + 1) text
-  halt_shown lines listed text laid =
+  pub halt_shown : (telling : Telling) (files : List PlainFile) (placed : List PlainToken)
+      → tokens ≡ texts_of placed → (text : List ℕ)
+      → IsTextOfMoves telling files before placed halted.there.earlier text
+      → AreStepsBefore telling files before s placed (halt.steps + 1) text
+  halt_shown telling files placed same text told =
       let there = halted.there in
-      let judged : SayMoves before s (judged_tokens tokens) (there.earlier ++ there.left) =
-      subst (λ (ms : List (Move (List ℕ))). SayMoves before s (judged_tokens tokens) ms) there.parts
+      let judged : SayMoves before s (judged_tokens (texts_of placed))
+      (there.earlier ++ there.left) =
+      subst (λ (ts : List (List ℕ)).
+      SayMoves before s (judged_tokens ts) (there.earlier ++ there.left)) same
+      (subst (λ (ms : List (Move (List ℕ))). SayMoves before s (judged_tokens tokens) ms) there.parts
       (subst (λ (c : Bool). SayMoves before s (judged_where c tokens) moves) (sym open_one)
-      said.1) in
+      said.1)) in
       inr (
         there.earlier,
         there.left,
         judged,
         ap (λ (n : ℕ). n + 1) halted.steps,
-        (listed.0, listed.1, laid listed.0 listed.2),
+        told,
       )
 
   -- all passed
@@ -161,20 +159,16 @@ module _ (st : List Sentence) (index : ℕ) (s : Sentence) (tokens : List (List 
       let well = passed_well none in
       moves_tried before s tokens moves b open_one said well.1 well.2
 
-  pub halt_listed : halt.rule ≡ None → (lines : List Line)
-      → AreLinesOf st before halted.there.earlier lines
-      → (text : List ℕ) → IsTextOfLines st lines text
-      → IsListingText before s (judged_where b tokens) text
-  halt_listed none lines listed text laid =
-      let same = (passed_well none).0 in
-      record {
-        moves = moves;
-        told = said.1;
-        steps = listed.0;
-        listed = subst (λ (ms : List (Move (List ℕ))). AreListed before ms listed.0) (sym same)
-            listed.1;
-        laid = laid listed.0 listed.2;
-      }
+  pub halt_listed : halt.rule ≡ None → (telling : Telling) (files : List PlainFile)
+      (placed : List PlainToken) (text : List ℕ)
+      → IsTextOfMoves telling files before placed halted.there.earlier text
+      → TellsMoves telling files before s placed (judged_where b tokens) text
+  halt_listed none telling files placed text told = (
+    moves,
+    said.1,
+    subst (λ (ms : List (Move (List ℕ))). IsTextOfMoves telling files before placed ms text)
+        (sym (passed_well none).0) told,
+  )
 
 -- ---- of the `$p` with a number
 
@@ -211,34 +205,38 @@ module _ (st : List Sentence) (id : ℕ) (tokens : List (List ℕ)) (steps : Rea
       (halt_tried st index s tokens (said index s number).1 steps.prefix halt (sym prefix)
       (judged index s number) (there index s number) none)
 
-  module _ (lines : List Line)
-      (listed : OfMoves st id steps.moves (λ index s moves.
-      AreLinesOf st (take index st) (take halt.passed moves) lines))
-      (text : List ℕ) (laid : IsTextOfLines st lines text) where
-    -- the lines are those of the moves before the place
-    listed_there : (index : ℕ) (s : Sentence) (number : IsProofNumber st id index s)
-        → AreLinesOf st (take index st) (there index s number).there.earlier lines
-    listed_there index s number =
-        let told = said index s number in
+  module _ (telling : Telling) (files : List PlainFile) (placed : List PlainToken)
+      (texts : tokens ≡ texts_of placed) (text : List ℕ)
+      (told : OfMoves st id steps.moves (λ index s moves.
+      IsTextOfMoves telling files (take index st) placed (take halt.passed moves) text)) where
+    -- the text is that of the moves before the place
+    told_there : (index : ℕ) (s : Sentence) (number : IsProofNumber st id index s)
+        → IsTextOfMoves telling files (take index st) placed
+        (there index s number).there.earlier text
+    told_there index s number =
+        let own = said index s number in
         let h = there index s number in
-        subst (λ (ms : List (Move (List ℕ))). AreLinesOf st (take index st) ms lines)
-        (first_are (limit_of Lenient) st (take index st) s steps.prefix told.1 halt h)
-        (listed index s told.1 number told.3)
+        subst (λ (ms : List (Move (List ℕ))).
+        IsTextOfMoves telling files (take index st) placed ms text)
+        (first_are (limit_of Lenient) st (take index st) s steps.prefix own.1 halt h)
+        (told index s own.1 number own.3)
 
     pub known_shown : OfProof st id (λ index s.
-        AreStepsBefore (take index st) s (judged_tokens tokens) (halt.steps + 1) text)
+        AreStepsBefore telling files (take index st) s placed (halt.steps + 1) text)
     known_shown index s number =
         halt_shown st index s tokens (said index s number).1 steps.prefix halt (sym prefix)
-        (judged index s number) (there index s number) lines (listed_there index s number) text
-        laid
+        (judged index s number) (there index s number) telling files placed texts text
+        (told_there index s number)
 
     pub known_listed : halt.rule ≡ None → (b : Bool) → steps.prefix ≡ b
-        → OfProof st id (λ index s. IsListingText (take index st) s (judged_where b tokens) text)
+        → OfProof st id (λ index s.
+        TellsMoves telling files (take index st) s placed (judged_where b tokens) text)
     known_listed none b is index s number =
-        subst (λ (c : Bool). IsListingText (take index st) s (judged_where c tokens) text) is
+        subst (λ (c : Bool).
+        TellsMoves telling files (take index st) s placed (judged_where c tokens) text) is
         (halt_listed st index s tokens (said index s number).1 steps.prefix halt (sym prefix)
-        (judged index s number) (there index s number) none lines (listed_there index s number)
-        text laid)
+        (judged index s number) (there index s number) none telling files placed text
+        (told_there index s number))
 
 -- ---- the theorem that was reached
 

@@ -2,3 +2,4 @@ pub mod AlikeReplies
 pub mod KnownSteps
 pub mod AnswersTold
 pub mod OwnProofs
+pub mod ToldTheorems

@@ -24,6 +24,7 @@ use Rattle.mm_rules.specs.declared.rule.Rule.TheVariants as rules
 use Rattle.mm_verdict.specs.Alone.{BreaksTokens, HasProofTokens}
 use Rattle.mm_check.specs.AloneLaws.{OwnProofIsTriedAlike, TellAlike}
 use Rattle.mm_facts.specs.Explained.{IsTokensFault}
+use Rattle.mm_verdict.specs.declared.question.Telling.{Telling}
 use Rattle.mm_check.specs.Reply.{IsKnownReply}
 use Rattle.mm_explain.specs.Reply.{IsTokensReply}
 use Rattle.mm_rules.specs.Verdict.{proof_of, sentences}
@@ -71,8 +72,9 @@ no_break (rules.Text X9) text has breaks = cc (breaks.2, has.plain)
 no_break (rules.Ask A3) text has breaks = breaks
 no_break rule text has breaks = absurd breaks
 
-module _ (files : List PlainFile) (before : List PlainStatement) (s : PlainStatement)
-    (proof : PlainFile) (tried : List ℕ) (tried_status : ℕ) (known : List ℕ) (known_status : ℕ)
+module _ (telling : Telling) (files : List PlainFile) (before : List PlainStatement)
+    (s : PlainStatement) (proof : PlainFile) (tried : List ℕ) (tried_status : ℕ)
+    (known : List ℕ) (known_status : ℕ)
     (meant : AllMeant (sentences before)) (formed : AllFormed (sentences before))
     (same : tokens_in proof.bytes ≡ proof_of s) where
   abbrev Own : ProofRule → ℕ → Type 0
@@ -85,8 +87,8 @@ module _ (files : List PlainFile) (before : List PlainStatement) (s : PlainState
       subst (λ ts. IsTokensFault Lenient (sentences before) (sentence_of s) ts rule step) same f
 
   tokens_alike : IsTokensReply proof (sentences before) (sentence_of s) tried tried_status
-      → IsKnownReply files before s known known_status
-      → TellAlike files before s proof tried tried_status known known_status
+      → IsKnownReply telling files before s known known_status
+      → TellAlike telling files before s proof tried tried_status known known_status
   tokens_alike (inl (whole, proved, told, ends)) (inl (whole', proved', listed, known_ends)) =
       inl (told, ends, listed, known_ends)
   tokens_alike (inl (whole, proved, told, ends)) (inr (inl k)) =
@@ -117,10 +119,11 @@ module _ (files : List PlainFile) (before : List PlainStatement) (s : PlainState
       inr (inr (t, k, one.0, one.1))
 
 pub own_proof_is_tried_alike : OwnProofIsTriedAlike
-own_proof_is_tried_alike files label before s proof tried tried_status known known_status there has
-    same (inl (rule, breaks, told)) known_reply = absurd (no_break rule proof.bytes has breaks)
-own_proof_is_tried_alike files label before s proof tried tried_status known known_status there has
-    same (inr (taken, reply)) known_reply =
+own_proof_is_tried_alike telling files label before s proof tried tried_status known known_status
+    there has same (inl (rule, breaks, told)) known_reply =
+    absurd (no_break rule proof.bytes has breaks)
+own_proof_is_tried_alike telling files label before s proof tried tried_status known known_status
+    there has same (inr (taken, reply)) known_reply =
     let at = there.0 in
     let meant : AllMeant (sentences before) =
     subst AllMeant
@@ -130,5 +133,5 @@ own_proof_is_tried_alike files label before s proof tried tried_status known kno
     let formed : AllFormed (sentences before) =
     formed_before (before ++ s ∷ at.after) before s at.after
     (readings_are_formed_in_place files (before ++ s ∷ at.after) at.ending at.reads).formed refl in
-    tokens_alike files before s proof tried tried_status known known_status meant formed same reply
-    known_reply
+    tokens_alike telling files before s proof tried tried_status known known_status meant formed
+    same reply known_reply

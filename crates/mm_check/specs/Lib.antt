@@ -4,3 +4,4 @@ pub mod Asked
 pub mod Alike
 pub mod Alone
 pub mod AloneLaws
+pub mod Told

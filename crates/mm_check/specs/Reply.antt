@@ -33,6 +33,8 @@ use Rattle.mm_verdict.specs.declared.question.Question.{Question}
 use Rattle.mm_verdict.specs.declared.question.Question.TheVariants as question
 use Rattle.mm_verdict.specs.declared.question.LoneQuestion.{LoneQuestion}
 use Rattle.mm_verdict.specs.declared.question.LoneQuestion.TheVariants.{Known, Try}
+use Rattle.mm_verdict.specs.declared.question.Telling.{Telling}
+use Rattle.mm_verdict.specs.declared.question.Telling.TheVariants as telling
 use Rattle.mm_verdict.specs.declared.question.WholeQuestion.{WholeQuestion}
 use Rattle.mm_verdict.specs.declared.question.WholeQuestion.TheVariants.{Check, Faults, Why}
 use Rattle.mm_verdict.specs.declared.question.WholeQuestion.TheVariants.{Axioms as AllAxioms}
@@ -42,10 +44,10 @@ use Rattle.mm_axioms.specs.Essential.{IsEssentialReport}
 use Rattle.mm_rules.specs.Rests.{IsAskFault, IsReport}
 use Rattle.mm_verdict.specs.Alone.{IsRefusedBefore, IsNoTheorem, IsReadTo, IsTheoremAt}
 use Rattle.mm_check.specs.Alone.{AreStepsBefore}
+use Rattle.mm_check.specs.Told.{TellsMoves, TellsProof}
 use Rattle.mm_facts.specs.Explained.{Detail, IsTokensFault, AreDetails, AreLeftOver}
-use Rattle.mm_facts.specs.Explained.{judged_tokens}
 use Rattle.mm_render.specs.Shorter.{IsMinimized}
-use Rattle.mm_render.specs.Shown.{ShowsProof, IsListingText}
+use Rattle.mm_render.specs.Shown.{ShowsProof}
 use Rattle.mm_render.specs.ShownUses.{ShowsUses}
 use Rattle.mm_verdict.specs.declared.form.Form.{Form}
 use Rattle.mm_verdict.specs.declared.form.Form.TheVariants as form
@@ -204,6 +206,9 @@ IsAnswerTo profile (question.Chain other) files label statements text status =
     IsChainReply label other.now statements text status
 IsAnswerTo profile question.Show files label statements text status =
     IsTextReply (ShowsProof statements label) (IsAskFault statements label) label text status
+IsAnswerTo profile question.Letters files label statements text status =
+    IsTextReply (TellsProof telling.Letters files statements label) (IsAskFault statements label)
+    label text status
 IsAnswerTo profile (question.Uses essential) files label statements text status =
     IsTextReply (ShowsUses essential statements label) (IsAskFault statements label) label text
     status
@@ -298,14 +303,13 @@ IsNotFoundReply files label text status =
 
 -- The proof of the `$p`, or what is known of it, is at fault: the lines of the steps before the
 -- fault, the refusal, and what explains it: the first line, with the place, and the facts.
-pub record IsKnownFault (files : List PlainFile) (before : List PlainStatement) (s : PlainStatement)
-    (text : List ℕ) (status : ℕ) : Type 0 where
+pub record IsKnownFault (telling : Telling) (files : List PlainFile) (before : List PlainStatement)
+    (s : PlainStatement) (text : List ℕ) (status : ℕ) : Type 0 where
   pub rule : ProofRule
   pub step : ℕ
   pub fault : IsTokensFault Lenient (sentences before) (sentence_of s) (proof_of s) rule step
   pub lines : List ℕ
-  pub shown : AreStepsBefore (sentences before) (sentence_of s) (judged_tokens (proof_of s)) step
-      lines
+  pub shown : AreStepsBefore telling files (sentences before) (sentence_of s) s.proof step lines
   pub details : List Detail
   pub explained : AreDetails files Lenient (sentences before) (sentence_of s) s.proof rule step
       details
@@ -319,31 +323,33 @@ pub record IsKnownFault (files : List PlainFile) (before : List PlainStatement) 
 
 -- The proof is incomplete, and its known prefix breaks no rule: the lines of the prefix's steps,
 -- and what it leaves on the stack.
-pub record IsCheckedPrefix (files : List PlainFile) (before : List Sentence) (s : Sentence)
-    (tokens : List PlainToken) (text : List ℕ) (status : ℕ) : Type 0 where
+pub record IsCheckedPrefix (telling : Telling) (files : List PlainFile) (before : List Sentence)
+    (s : Sentence) (tokens : List PlainToken) (text : List ℕ) (status : ℕ) : Type 0 where
   pub incomplete : is_incomplete (texts_of tokens) ≡ true
   pub allowed : IsPrefixAllowedUnder Lenient before s (texts_of tokens)
   pub lines : List ℕ
-  pub shown : IsListingText before s (checked_prefix (texts_of tokens)) lines
+  pub shown : TellsMoves telling files before s tokens (checked_prefix (texts_of tokens)) lines
   pub details : List Detail
   pub left : AreLeftOver files Lenient before s tokens details
   pub said : IsExplained lines details text
   pub ends : status ≡ 3
 
 -- the reply how the `$p` is proved, as far as that is known
-abbrev pub IsKnownReply : List PlainFile → (before : List PlainStatement) → PlainStatement → List ℕ
-    → ℕ → Type 0
-IsKnownReply files before s text status =
+abbrev pub IsKnownReply : Telling → List PlainFile → (before : List PlainStatement)
+    → PlainStatement → List ℕ → ℕ → Type 0
+IsKnownReply telling files before s text status =
     ((is_incomplete (proof_of s) ≡ false)
     × IsProvedUnder Lenient (sentences before) (sentence_of s) (proof_of s)
-    × IsListingText (sentences before) (sentence_of s) (proof_of s) text × (status ≡ 0))
-    ⊎ (IsCheckedPrefix files (sentences before) (sentence_of s) s.proof text status
-    ⊎ IsKnownFault files before s text status)
+    × TellsMoves telling files (sentences before) (sentence_of s) s.proof (proof_of s) text
+    × (status ≡ 0))
+    ⊎ (IsCheckedPrefix telling files (sentences before) (sentence_of s) s.proof text status
+    ⊎ IsKnownFault telling files before s text status)
 
 -- the answer about the theorem after those before it
 abbrev pub IsLoneAnswer : LoneQuestion → List PlainFile → (before : List PlainStatement)
     → PlainStatement → List ℕ → ℕ → Type 0
-IsLoneAnswer Known files before s text status = IsKnownReply files before s text status
+IsLoneAnswer (Known telling) files before s text status =
+    IsKnownReply telling files before s text status
 IsLoneAnswer (Try name proof) files before s text status =
     IsTryReply (record { name = name.now; bytes = proof.now }) (sentences before) (sentence_of s)
     text status

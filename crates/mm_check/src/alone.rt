@@ -46,7 +46,7 @@ fn answer_about(
         (plain_statement reached.now.statement) reply.text.items (number_of reply.status)) }
 {
     match question {
-        LoneQuestion::Known => known_reply(alloc, files, reached),
+        LoneQuestion::Known(telling) => known_reply(alloc, files, reached, *telling),
         LoneQuestion::Try { name, text } => {
             let proof = File { name, bytes: text };
             try_reply(alloc, &reached.book, reached.id, &proof)

@@ -14,25 +14,26 @@ ghost use Rattle.mm_step.specs.Plain.{token_texts};
 ghost use Rattle.mm_step.specs.Steps.{AreSteps, IsProofNumber};
 ghost use Rattle.mm_proof.specs.Tokens.{is_incomplete};
 ghost use Rattle.mm_proof.specs.UnderProfile.{IsPrefixAllowedUnder};
+ghost use Rattle.mm_verdict.specs.declared.question.Telling.{Telling};
 ghost use Rattle.mm_check.specs.Alone.{AreStepsBefore};
 ghost use Rattle.mm_facts.specs.Explained.{judged_tokens};
 ghost use Rattle.mm_facts.specs.Explained.{IsTokensFault};
 ghost use Rattle.mm_explain.specs.Mirror.Reached.{HasReached};
 ghost use Rattle.mm_check.specs.Reply.{IsKnownFault, IsCheckedPrefix, IsKnownReply};
-ghost use Rattle.mm_render.specs.Shown.{IsListingText};
+ghost use Rattle.mm_check.specs.Told.{TellsMoves};
 ghost use Rattle.mm_rules.specs.Status.{number_of};
 ghost use Rattle.mm_rules.specs.Verdict.{proof_of};
 
+use crate::told::told_before;
 use mm_base::{File, Token};
 use mm_explain::{Reached, judged_steps, push_head};
 use mm_facts::{cause_of, fault_place, push_cause, push_left_over};
 use mm_frame::{Book, LabelId};
-use mm_listing::{halt_of, lines_before};
+use mm_listing::halt_of;
 use mm_proof::Steps;
-use mm_render::text_of;
 use mm_rules::{LineCount, Rule, Status, refusal};
 use mm_step::{Profile, ProofFault, ProofRule};
-use mm_verdict::{Reply, push_refusal, refusal_status};
+use mm_verdict::{Reply, Telling, push_refusal, refusal_status};
 use std::alloc::{AllocError, Global};
 
 /// The reply where the proof, or what is known of it, is at fault: the lines of the steps before
@@ -52,13 +53,14 @@ fn fault_reply(
     requires fault { OfProof reached.now.book.statements reached.now.id.0 (λ index s.
         IsTokensFault Lenient (take index reached.now.book.statements) s (token_texts tokens.now)
         fault.0 fault.1) }
-    requires shown { OfProof reached.now.book.statements reached.now.id.0 (λ index s.
-        AreStepsBefore (take index reached.now.book.statements) s
-        (judged_tokens (token_texts tokens.now)) fault.1 lines.items) }
-    ensures { IfOk result (λ reply. (label : List ℕ)
-        (r : HasReached (map plain_file files.now) label reached.now)
-        → IsKnownFault (map plain_file files.now) r.before (plain_statement reached.now.statement)
-        reply.text.items (number_of reply.status)) }
+    ensures { IfOk result (λ reply. (telling : Telling)
+        → OfProof reached.now.book.statements reached.now.id.0 (λ index s.
+        AreStepsBefore telling (map plain_file files.now)
+        (take index reached.now.book.statements) s (map plain_token tokens.now) fault.1
+        lines.items)
+        → (label : List ℕ) (r : HasReached (map plain_file files.now) label reached.now)
+        → IsKnownFault telling (map plain_file files.now) r.before
+        (plain_statement reached.now.statement) reply.text.items (number_of reply.status)) }
 {
     let rule = Rule::Proof(fault.0);
     let mut counted = LineCount::new(files);
@@ -98,11 +100,12 @@ fn prefix_reply(
     requires incomplete { is_incomplete (token_texts tokens.now) ≡ true }
     requires allowed { OfProof book.now.statements id.0 (λ index s.
         IsPrefixAllowedUnder Lenient (take index book.now.statements) s (token_texts tokens.now)) }
-    requires shown { OfProof book.now.statements id.0 (λ index s.
-        IsListingText (take index book.now.statements) s (checked_prefix (token_texts tokens.now))
-        lines.items) }
-    ensures { IfOk result (λ reply. OfProof book.now.statements id.0 (λ index s.
-        IsCheckedPrefix (map plain_file files.now) (take index book.now.statements) s
+    ensures { IfOk result (λ reply. (telling : Telling)
+        → OfProof book.now.statements id.0 (λ index s.
+        TellsMoves telling (map plain_file files.now) (take index book.now.statements) s
+        (map plain_token tokens.now) (checked_prefix (token_texts tokens.now)) lines.items)
+        → OfProof book.now.statements id.0 (λ index s.
+        IsCheckedPrefix telling (map plain_file files.now) (take index book.now.statements) s
         (map plain_token tokens.now) reply.text.items (number_of reply.status))) }
 {
     let mut text = lines;
@@ -120,6 +123,7 @@ fn steps_reply(
     reached: &Reached,
     tokens: &[Token],
     steps: &Steps,
+    telling: Telling,
 ) -> Result<Reply, AllocError>
     requires reached { (label : List ℕ) × HasReached (map plain_file files.now) label reached.now }
     requires tokens { token_texts tokens.now ≡ proof_of (plain_statement reached.now.statement) }
@@ -133,12 +137,20 @@ fn steps_reply(
     requires profile { steps.now.profile ≡ Lenient }
     ensures { IfOk result (λ reply. (label : List ℕ)
         (r : HasReached (map plain_file files.now) label reached.now)
-        → IsKnownReply (map plain_file files.now) r.before (plain_statement reached.now.statement)
-        reply.text.items (number_of reply.status)) }
+        → IsKnownReply telling (map plain_file files.now) r.before
+        (plain_statement reached.now.statement) reply.text.items (number_of reply.status)) }
 {
     let halt = halt_of(alloc, &reached.book, reached.id, steps)?;
-    let before = lines_before(alloc, &reached.book, reached.id, steps, halt.passed)?;
-    let lines = text_of(alloc, &reached.book, &before)?;
+    let front = (halt.passed, telling);
+    let lines = told_before(
+        alloc,
+        files,
+        &reached.book,
+        reached.id,
+        tokens,
+        steps,
+        front,
+    )?;
     match halt.rule {
         Some(rule) => {
             let fault = (rule, halt.steps + 1);
@@ -155,16 +167,21 @@ fn steps_reply(
 }
 
 /// The reply how the theorem is proved, as far as that is known.
-pub fn known_reply(alloc: Global, files: &[File], reached: &Reached) -> Result<Reply, AllocError>
+pub fn known_reply(
+    alloc: Global,
+    files: &[File],
+    reached: &Reached,
+    telling: Telling,
+) -> Result<Reply, AllocError>
     requires { (label : List ℕ) × HasReached (map plain_file files.now) label reached.now }
     ensures { IfOk result (λ reply. (label : List ℕ)
         (r : HasReached (map plain_file files.now) label reached.now)
-        → IsKnownReply (map plain_file files.now) r.before (plain_statement reached.now.statement)
-        reply.text.items (number_of reply.status)) }
+        → IsKnownReply telling (map plain_file files.now) r.before
+        (plain_statement reached.now.statement) reply.text.items (number_of reply.status)) }
 {
     let tokens = &reached.statement.proof;
     match judged_steps(alloc, &reached.book, reached.id, tokens) {
-        Ok(steps) => steps_reply(alloc, files, reached, tokens, &steps),
+        Ok(steps) => steps_reply(alloc, files, reached, tokens, &steps, telling),
         Err(ProofFault::Rule { rule, step }) => {
             fault_reply(alloc, files, reached, tokens, Vec::new(alloc), (rule, step))
         }

@@ -3,8 +3,8 @@
 //! out. It stands on all crates that answer questions: verdict, axioms, texts, explanations,
 //! saving, shorter proofs, lemmas. Begin with `command`, then `accepted` and `question` (of databases
 //! in which nothing is at fault), `whole` (of all faults, and of all proofs of a file), `alone` (of
-//! one theorem, whatever its proof) and `stated` (of one statement). What a reply is stands in
-//! `specs/Reply.antt`.
+//! one theorem, whatever its proof) and `stated` (of one statement); `told` has how steps are told.
+//! What a reply is stands in `specs/Reply.antt`.
 #![tactic(auto)]
 
 mod accepted;
@@ -15,9 +15,10 @@ mod checked_prefix;
 mod command;
 mod question;
 mod stated;
+mod told;
 mod whole;
 
 pub use alike::{alike_files_have_one_reply, own_proof_is_tried_alike};
 pub use command::{RunFault, reply_to, run};
 pub use mm_frame::LabelId;
-pub use mm_verdict::{Command, LoneQuestion, Question, WholeQuestion};
+pub use mm_verdict::{Command, LoneQuestion, Question, Telling, WholeQuestion};

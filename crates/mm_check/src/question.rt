@@ -19,6 +19,7 @@ ghost use Rattle.mm_axioms.specs.Users.{AreUsers, IsAssertionFault};
 ghost use Rattle.mm_rules.specs.Rests.{IsAskFault};
 
 use crate::chain::chain_answer;
+use crate::told::lettered_listing;
 use mm_axioms::{Report, all_users, axioms, direct_users, essential_axioms};
 use mm_frame::LabelId;
 use mm_minimize::{SearchWatch, minimized_by_library};
@@ -282,6 +283,7 @@ pub(crate) fn answer_to<W: SearchWatch>(
         Question::Axioms { essential } => axioms_answer(alloc, checked, label, *essential),
         Question::Chain(other) => chain_answer(alloc, checked, label, other),
         Question::Show => text_reply(alloc, label, proof_listing(alloc, checked, label)),
+        Question::Letters => text_reply(alloc, label, lettered_listing(alloc, checked, label)),
         Question::Uses { essential } => {
             text_reply(
                 alloc,

@@ -13,3 +13,4 @@ pub mod FirstChanges
 pub mod Offers
 pub mod NearLabels
 pub mod OrderedPairs
+pub mod LetteredLines

@@ -3,5 +3,6 @@ pub mod Changes
 pub mod Near
 pub mod StepTexts
 pub mod Explained
+pub mod Lettered
 pub mod Why
 pub mod MeaningFacts

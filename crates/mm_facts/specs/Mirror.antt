@@ -3,3 +3,4 @@
 -- specs/.
 pub mod Explaining
 pub mod FirstChanges
+pub mod Lettered

@@ -4,7 +4,8 @@
 //! verdict. Begin with `details`, which has the order of the facts; `types` has the types of P9,
 //! `disjoint` the pairs of P11 and P12, `step_texts` how steps are told, `fact_lines` the words of
 //! every fact, `fault_places` the places, `suggestion` the label that is nearest to an unknown one,
-//! by the fewest `changes`. What is reported is defined in `specs/Explained.antt`.
+//! by the fewest `changes`. What is reported is defined in `specs/Explained.antt`. `lettered` lists
+//! the steps of any proof with their places and letters (`specs/Lettered.antt`).
 #![tactic(auto)]
 
 mod changes;
@@ -12,6 +13,7 @@ mod details;
 mod disjoint;
 mod fact_lines;
 mod fault_places;
+mod lettered;
 mod named_halt;
 mod step_texts;
 mod suggestion;
@@ -24,5 +26,6 @@ pub use fact_lines::{
     push_token,
 };
 pub use fault_places::{fault_place, place_among};
+pub use lettered::lettered_text;
 pub use named_halt::NamedHalt;
 pub use suggestion::Nearest;

@@ -59,7 +59,7 @@ fn step_indices(alloc: Global, said: &[Code]) -> Result<Vec<usize>, AllocError>
 }
 
 /// What a step is called.
-fn push_called(out: &mut Vec<u8>, book: &Book, name: Name) -> Result<(), AllocError>
+pub(crate) fn push_called(out: &mut Vec<u8>, book: &Book, name: Name) -> Result<(), AllocError>
     ensures { OnOk result ((called : StepName) → IsNameOf book.now.statements name called
         → out.new.items ≡ out.old.items ++ called_text called) }
 {
@@ -73,7 +73,7 @@ fn push_called(out: &mut Vec<u8>, book: &Book, name: Name) -> Result<(), AllocEr
 }
 
 /// The line and the column of a position in one of the files.
-fn push_position(
+pub(crate) fn push_position(
     out: &mut Vec<u8>,
     counted: &mut LineCount,
     file: usize,
@@ -90,7 +90,11 @@ fn push_position(
 }
 
 /// The position at which the move with an index stands: its file, and where in it.
-fn position_of_move(tokens: &[Token], places: &[(usize, usize)], index: usize) -> (usize, usize)
+pub(crate) fn position_of_move(
+    tokens: &[Token],
+    places: &[(usize, usize)],
+    index: usize,
+) -> (usize, usize)
     requires room { sum_by length (token_texts tokens.now) ≤ most_bytes }
     requires places { AreMovePlaces (token_texts tokens.now) places.now }
     requires within { index < length places.now }

@@ -208,15 +208,17 @@ Examples:
   mm find '( $? + $? ) = $*' --whole set.mm
 ";
 
-const SHOW: &str = "Usage: mm show [--known | --essential | --uses] LABEL FILES..
+const SHOW: &str = "Usage: mm show [--known] [--letters] LABEL FILES..
+       mm show [--essential | --uses] LABEL FILES..
 
 Checks the database, and lists the steps of the proof of the theorem with this
 label.
 
-Options, of which at most one is given:
+Options:
   --known       the steps that pass, whatever the other proofs: of a proof with
                 a `?` those before it, and what is on the stack there; of a
                 proof at fault those before the fault, and why it stops there
+  --letters     each step, with its place and its letters
   --uses        each step, with the steps that gave it its hypotheses
   --essential   the steps that the last one is reached from through `$e`
                 hypotheses, each with the steps that gave it these
@@ -225,6 +227,9 @@ Replies:
   STEP NAME EXPRESSION, one on each line                            status 0
       A step: its number, from 1; the label that it names, or @N where it
       repeats the expression of step N; and the symbols of its expression.
+  STEP LINE:COLUMN LETTERS NAME EXPRESSION, with --letters          status 0
+      The place is that of its label, or of the last letter of its number.
+      LETTERS is that number and each `Z` behind it; - in a normal proof.
   STEP USES NAME EXPRESSION, with --uses and --essential            status 0
       USES is the numbers of those steps with commas between them, or -.
   ask A1 LABEL                                                      status 1
@@ -241,7 +246,7 @@ Replies:
 
 Examples:
   mm show id set.mm
-  mm show --known id set.mm
+  mm show --known --letters id set.mm
   mm show --essential id set.mm
 ";
 

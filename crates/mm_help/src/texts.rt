@@ -55,12 +55,15 @@ Commands:
                          proofs: tokens, `$?` for one symbol, `$*` for any number of them; with
                          --and this one too, with --whole as a whole expression, with --hypotheses
                          also in hypotheses
-  show [--known | --essential | --uses] LABEL FILES..
+  show [--known] [--letters] LABEL FILES..
                          checks the database, and lists the steps of the proof of the theorem with
                          this label; with --known the steps that pass, of an unfinished proof or of
-                         one at fault, and what is on the stack there; with --uses which steps gave
-                         each step its hypotheses; with --essential those steps alone that the last
-                         one is reached from through `$e` hypotheses
+                         one at fault, and what is on the stack there; with --letters where each
+                         step stands, and its letters
+  show [--essential | --uses] LABEL FILES..
+                         with --uses which steps gave each step its hypotheses; with --essential
+                         those steps alone that the last one is reached from through `$e`
+                         hypotheses
   normal [--file] LABEL FILES..
                          checks the database, and writes the normal proof of the theorem with this
                          label; with --file the whole file in which the theorem stands, with that
@@ -181,6 +184,8 @@ Reply of show, on standard output:
   STEP NAME EXPRESSION, one on each line
       A step of the proof: its number, from 1; the label that it names, or @N where it repeats the
       expression of step N; and the symbols of its expression. Status 0.
+  With --letters: STEP LINE:COLUMN LETTERS NAME EXPRESSION, with the place of its label, or of the
+  last letter of its number; LETTERS is that number and each `Z` behind it, - in a normal proof.
   With --uses and --essential: STEP USES NAME EXPRESSION, where USES is the numbers of the steps
   that gave the step its hypotheses, or its `$e` alone, with commas between them, or -.
   With --known, after the steps that pass: the entries of the stack, status 3; or the refusal of the

@@ -1,3 +1,4 @@
 pub mod Mirror
 pub mod Places
 pub mod WholePlaces
+pub mod StepLetters

@@ -21,7 +21,7 @@ pub use asked_texts::{
     small_form, small_span_text, statement_text, uses_listing,
 };
 pub use forms::{OwnProof, own_proof, span_text};
-pub use listing_lines::text_of;
+pub use listing_lines::{lines_of, text_of};
 pub use rewrite::most_for;
 pub use save_fault::SaveFault;
 pub use shorter::{Handed, handed_proof};

@@ -62,7 +62,7 @@ pub fn text_of(alloc: Global, book: &Book, lines: &[Line]) -> Result<Vec<u8>, Al
 }
 
 /// The lines of the listing of a theorem's proof.
-fn lines_of(alloc: Global, book: &Book, theorem: &Theorem) -> Result<Vec<Line>, AskFault>
+pub fn lines_of(alloc: Global, book: &Book, theorem: &Theorem) -> Result<Vec<Line>, AskFault>
     requires { IsWholeProof book.now.statements theorem.now.id.0 theorem.now.steps }
     ensures listed { IfOk result (λ lines.
         OfMoves book.now.statements theorem.now.id.0 theorem.now.steps.moves

@@ -29,6 +29,8 @@ mod forms;
 #[cfg(test)]
 mod incomplete;
 #[cfg(test)]
+mod letters;
+#[cfg(test)]
 mod lone;
 #[cfg(test)]
 mod names;

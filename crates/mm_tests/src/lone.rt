@@ -4,6 +4,7 @@ use crate::Case;
 use crate::Part::Text;
 use mm_check::Command::{self, Lone};
 use mm_check::LoneQuestion::{Known, Try};
+use mm_check::Telling::Steps;
 use mm_core_tests::databases::{FIRST, FIRST_HEAD};
 
 /// Texts that are proofs of a theorem, whatever stands as its proof.
@@ -269,7 +270,7 @@ pub(crate) const NOT_FOUND: [(Command<'static>, Case); 6] = [
     (
         Lone {
             label: b"none",
-            question: Known,
+            question: Known(Steps),
         },
         Case {
             name: "a theorem alone that is not there",
@@ -299,7 +300,7 @@ pub(crate) const NOT_FOUND: [(Command<'static>, Case); 6] = [
     (
         Lone {
             label: b"none",
-            question: Known,
+            question: Known(Steps),
         },
         Case {
             name: "a fault of the text stands before a label that is not there",
@@ -311,7 +312,7 @@ pub(crate) const NOT_FOUND: [(Command<'static>, Case); 6] = [
     (
         Lone {
             label: b"th2",
-            question: Known,
+            question: Known(Steps),
         },
         Case {
             name: "a statement before the theorem breaks a rule of meaning",
@@ -366,7 +367,7 @@ pub(crate) const KNOWN_FAULTS: [(Command<'static>, Case); 3] = [
     (
         Lone {
             label: b"th",
-            question: Known,
+            question: Known(Steps),
         },
         Case {
             name: "a number isn't ended",
@@ -386,7 +387,7 @@ h.mm:8:17: P5: a number in the letters isn't ended, in the proof of th
     (
         Lone {
             label: b"th",
-            question: Known,
+            question: Known(Steps),
         },
         Case {
             name: "a byte is no letter, before an unknown step",
@@ -407,7 +408,7 @@ h.mm:9:3: P4: a byte of the letters isn't one of A to Z, in the proof of th
     (
         Lone {
             label: b"th",
-            question: Known,
+            question: Known(Steps),
         },
         Case {
             name: "another expression is proved, after a fault of another proof",

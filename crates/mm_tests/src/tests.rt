@@ -8,8 +8,8 @@ ghost use Rattle.mm_text.specs.Files.{plain_file};
 ghost use Rattle.mm_check.specs.Reply.{AsksHanded};
 
 use crate::{
-    Case, Part, compressed, damaged, faults, files, finding, incomplete, lone, names, one_file,
-    orders, prefixes, profiles, proofs, questions, scopes, statements, users, uses, why,
+    Case, Part, compressed, damaged, faults, files, finding, incomplete, letters, lone, names,
+    one_file, orders, prefixes, profiles, proofs, questions, scopes, statements, users, uses, why,
     why_hypotheses, why_meaning, why_text,
 };
 use mm_base::{File, Seed, Statement};
@@ -564,6 +564,16 @@ fn uses_of_steps(rt: HostRuntime) -> Result<(), Fail> {
 #[test]
 fn essential_steps(rt: HostRuntime) -> Result<(), Fail> {
     compare_commands(&rt, rt.alloc(), &uses::ESSENTIAL)
+}
+
+#[test]
+fn letters_of_steps(rt: HostRuntime) -> Result<(), Fail> {
+    compare_commands(&rt, rt.alloc(), &letters::LETTERS)
+}
+
+#[test]
+fn letters_of_known_steps(rt: HostRuntime) -> Result<(), Fail> {
+    compare_commands(&rt, rt.alloc(), &letters::KNOWN_LETTERS)
 }
 
 #[test]

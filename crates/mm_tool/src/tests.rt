@@ -11,7 +11,7 @@ use crate::serve::{run_over, serve, start};
 use failing::{FailingFolder, Failure, Wordless, failing_writer};
 use folder::{Entry, Shelf};
 use mm_base::Seed;
-use mm_check::{Command, LoneQuestion, Question, WholeQuestion};
+use mm_check::{Command, LoneQuestion, Question, Telling, WholeQuestion};
 use mm_help::{Page, Texts};
 use mm_rules::Status;
 use mm_step::Profile;
@@ -199,13 +199,17 @@ fn asks_by_its_words(rt: HostRuntime) {
         profile,
         question: WholeQuestion::Why,
     };
-    let known = Command::Lone {
+    let known = |telling| Command::Lone {
         label: b"th".as_slice(),
-        question: LoneQuestion::Known,
+        question: LoneQuestion::Known(telling),
     };
     let show = Command::About {
         label: b"th".as_slice(),
         question: Question::Show,
+    };
+    let letters = Command::About {
+        label: b"th".as_slice(),
+        question: Question::Letters,
     };
     let uses = |essential| Command::About {
         label: b"th".as_slice(),
@@ -239,11 +243,15 @@ fn asks_by_its_words(rt: HostRuntime) {
         (["mm", "show", "th", "first.mm"].as_slice(), show),
         (
             ["mm", "show", "--known", "th", "first.mm"].as_slice(),
-            known,
+            known(Telling::Steps),
         ),
         (
-            ["mm", "show", "th", "--known", "first.mm"].as_slice(),
-            known,
+            ["mm", "show", "th", "--letters", "--known", "first.mm"].as_slice(),
+            known(Telling::Letters),
+        ),
+        (
+            ["mm", "show", "--letters", "th", "first.mm"].as_slice(),
+            letters,
         ),
         (
             ["mm", "show", "--essential", "th", "first.mm"].as_slice(),
@@ -373,12 +381,14 @@ fn takes_one_flag_of_show(rt: HostRuntime) {
         ("--known", "--essential"),
         ("--known", "--uses"),
         ("--uses", "--essential"),
+        ("--letters", "--uses"),
+        ("--essential", "--letters"),
     ] {
         let words = ["mm", "show", first, second, "th", "first.mm"];
         let (status, out, err) = outcome_of(rt.alloc(), &words);
         assert_eq!(rt; status, 2);
         assert!(rt; out.is_empty());
-        assert!(rt; err.starts_with(b"mm: --known, --essential and --uses exclude each other\n"));
+        assert!(rt; err.starts_with(b"mm: --essential and --uses stand alone\n"));
     }
 }
 

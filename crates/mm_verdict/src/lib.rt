@@ -20,7 +20,7 @@ mod watch;
 pub use checked::Checked;
 pub use faults::{AllFaults, all_faults};
 pub use form::Form;
-pub use question::{Command, LoneQuestion, Question, WholeQuestion};
+pub use question::{Command, LoneQuestion, Question, Telling, WholeQuestion};
 pub use reply::{
     Reply, accepted_reply, ask_reply, conclusion_status, fault_reply, first_status, push_label,
     push_labels, push_refusal, push_refusals, refusal_status, refused_text, text_status,

@@ -81,6 +81,8 @@ pub enum Question<'a> {
     Chain(&'a [u8]),
     /// How it is proved, step by step.
     Show,
+    /// The same, with the place and the letters of each step.
+    Letters,
     /// What each step of its proof uses; if `essential`, of the steps alone that are reached from
     /// the last one through `$e`.
     Uses { essential: bool },
@@ -96,12 +98,21 @@ pub enum Question<'a> {
     Minimized,
 }
 
+/// What is told of each step of a proof, besides what it is called and its expression.
+#[derive(Clone, Copy, PartialEq, Eq, Debug)]
+pub enum Telling {
+    /// Nothing.
+    Steps,
+    /// Where it stands, and its letters.
+    Letters,
+}
+
 /// A question about the theorem with a label alone, over the statements before it, whatever their
 /// proofs. What stands after it isn't read.
 #[derive(Clone, Copy, PartialEq, Eq, Debug)]
 pub enum LoneQuestion<'a> {
     /// How it is proved, step by step, as far as that is known.
-    Known,
+    Known(Telling),
     /// Whether this text is a proof of it, whatever stands in the file as its proof. Its name is
     /// that of the file that holds it: the place of a fault is reported in that file.
     Try { name: &'a [u8], text: &'a [u8] },

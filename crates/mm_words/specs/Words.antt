@@ -30,6 +30,7 @@ use Rattle.mm_verdict.specs.declared.question.WholeQuestion.{WholeQuestion}
 use Rattle.mm_verdict.specs.declared.question.WholeQuestion.TheVariants.{Check, Faults, Why, Axioms, Shorter}
 use Rattle.mm_verdict.specs.declared.question.LoneQuestion.{LoneQuestion}
 use Rattle.mm_verdict.specs.declared.question.LoneQuestion.TheVariants as lone
+use Rattle.mm_verdict.specs.declared.question.Telling.TheVariants as telling
 use Rattle.mm_verdict.specs.declared.form.Form.{Form}
 use Rattle.mm_verdict.specs.declared.form.Form.TheVariants.{Normal, Packed, Small}
 use Rattle.mm_step.specs.declared.profile.Profile.{Profile}
@@ -158,12 +159,14 @@ find_line =
     (flag_rule (codes "hypotheses")))
     files_rule
 
--- `show [--known | --essential | --uses] LABEL FILES..`
+-- `show [--known] [--letters] LABEL FILES..` and `show [--essential | --uses] LABEL FILES..`
 abbrev pub show_line : App
 show_line =
     with_rule
     (with_rule
+    (with_rule
     (with_rule (question_line (codes "show")) (flag_rule (codes "known")))
+    (flag_rule (codes "letters")))
     (flag_rule (codes "essential")))
     (flag_rule (codes "uses"))
 
@@ -468,32 +471,33 @@ AsksFindAmiss words =
     × AsksFind words patterns whole hypotheses names × ¬ (AreShort patterns)
 
 -- Of the flags of `show` these are given, if so it is said.
-abbrev pub AreShowFlags : List Row → (known essential uses : Bool) → Type 0
-AreShowFlags rows known essential uses =
-    IsGiven (codes "known") rows known × IsGiven (codes "essential") rows essential
-    × IsGiven (codes "uses") rows uses
+abbrev pub AreShowFlags : List Row → (known letters essential uses : Bool) → Type 0
+AreShowFlags rows known letters essential uses =
+    IsGiven (codes "known") rows known × IsGiven (codes "letters") rows letters
+    × IsGiven (codes "essential") rows essential × IsGiven (codes "uses") rows uses
 
 -- They ask with these flags for the steps of the proof of the theorem with this label.
-abbrev pub AsksShow : List Text → (label : Text) → (known essential uses : Bool) → List Text
-    → Type 0
-AsksShow words label known essential uses names =
+abbrev pub AsksShow : List Text → (label : Text) → (known letters essential uses : Bool)
+    → List Text → Type 0
+AsksShow words label known letters essential uses names =
     (rows : List Row) × Commands words (codes "show") rows
     × (unwrap_or (first_of (codes "LABEL") rows) [] ≡ label)
-    × AreShowFlags rows known essential uses
+    × AreShowFlags rows known letters essential uses
     × (unwrap_or (all_of (codes "FILES") rows) [] ≡ names)
 
--- Two of the flags are given, which exclude each other.
-abbrev pub AreSeveral : (known essential uses : Bool) → Type 0
-AreSeveral known essential uses =
-    (IsTrue known × IsTrue essential)
-    ⊎ ((IsTrue known × IsTrue uses) ⊎ (IsTrue essential × IsTrue uses))
+-- Flags are given that exclude each other: `--essential` and `--uses`, and each of these and one of
+-- `--known` and `--letters`.
+abbrev pub AreSeveral : (known letters essential uses : Bool) → Type 0
+AreSeveral known letters essential uses =
+    (IsTrue essential × IsTrue uses)
+    ⊎ ((IsTrue essential ⊎ IsTrue uses) × (IsTrue known ⊎ IsTrue letters))
 
--- They ask so with two of them.
+-- They ask so with such flags.
 abbrev pub AsksShowAmiss : List Text → Type 0
 AsksShowAmiss words =
-    (rows : List Row) × (known essential uses : Bool)
-    × Commands words (codes "show") rows × AreShowFlags rows known essential uses
-    × AreSeveral known essential uses
+    (rows : List Row) × (known letters essential uses : Bool)
+    × Commands words (codes "show") rows × AreShowFlags rows known letters essential uses
+    × AreSeveral known letters essential uses
 
 -- They ask about the assertion with this label for the theorems whose proofs use it, or with `--all`
 -- for those that rest on it.
@@ -652,9 +656,12 @@ AsksAbout words label (question.Axioms essential) names =
     AsksAxioms words false essential None (label ∷ names) × (names ≢ [])
 AsksAbout words label (question.Chain other) names =
     AsksAxioms words false false (Some other.now) (label ∷ names) × (names ≢ [])
-AsksAbout words label question.Show names = AsksShow words label false false false names
-AsksAbout words label (question.Uses true) names = AsksShow words label false true false names
-AsksAbout words label (question.Uses false) names = AsksShow words label false false true names
+AsksAbout words label question.Show names = AsksShow words label false false false false names
+AsksAbout words label question.Letters names = AsksShow words label false true false false names
+AsksAbout words label (question.Uses true) names =
+    AsksShow words label false false true false names
+AsksAbout words label (question.Uses false) names =
+    AsksShow words label false false false true names
 AsksAbout words label (question.Form form whole) names =
     AsksForm (name_of_form form) words label whole names
 AsksAbout words label (question.Same text) names = ⊥
@@ -662,9 +669,12 @@ AsksAbout words label (question.Users all) names = AsksUsers words label all nam
 AsksAbout words label question.Minimized names = AsksMinimized words label names
 
 -- They ask this question about the theorem with this label alone: by `show --known` for the steps that
--- pass. No words alone ask to try a text.
+-- pass, with `--letters` for their places and letters too. No words alone ask to try a text.
 abbrev pub AsksLone : List Text → (label : Text) → LoneQuestion → List Text → Type 0
-AsksLone words label lone.Known names = AsksShow words label true false false names
+AsksLone words label (lone.Known telling.Steps) names =
+    AsksShow words label true false false false names
+AsksLone words label (lone.Known telling.Letters) names =
+    AsksShow words label true true false false names
 AsksLone words label (lone.Try name text) names = ⊥
 
 -- They ask to run this command over the files with these names. A line for each assertion is asked for

@@ -77,6 +77,8 @@ pub(crate) const LEAST: &str = "least";
 
 pub(crate) const KNOWN: &str = "known";
 
+pub(crate) const LETTERS: &str = "letters";
+
 pub(crate) const ESSENTIAL: &str = "essential";
 
 pub(crate) const USES: &str = "uses";
@@ -358,9 +360,11 @@ fn show_command<'a>(alloc: Global) -> Result<Command<'a>, AllocError>
         alloc,
         SHOW,
         "lists the steps of the proof of a theorem",
-        "mm show [--known | --essential | --uses] LABEL FILES..",
+        "mm show [--known] [--letters] LABEL FILES..
+       mm show [--essential | --uses] LABEL FILES..",
     );
     let command = with_argument(command, flag_argument(alloc, KNOWN));
+    let command = with_argument(command, flag_argument(alloc, LETTERS));
     let command = with_argument(command, flag_argument(alloc, ESSENTIAL));
     with_argument(command, flag_argument(alloc, USES))
 }

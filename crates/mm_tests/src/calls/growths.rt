@@ -184,8 +184,8 @@ fn answer_to(
             let is_same = is_same_proof(alloc, checked, label, text)?;
             Ok(Vec::from_slice(alloc, if is_same { b"same" } else { b"no" })?)
         }
-        // No command of these tests asks for it.
-        Question::Chain(_) => Ok(Vec::new(alloc)),
+        // No command of these tests asks for them.
+        Question::Chain(_) | Question::Letters => Ok(Vec::new(alloc)),
         Question::Users { all } => users_text(alloc, checked, label, *all),
         // It is asked by a command alone, so this is what is told where no search finds anything.
         Question::Minimized => small_form(alloc, checked, label),

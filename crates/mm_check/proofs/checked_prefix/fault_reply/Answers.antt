@@ -12,7 +12,6 @@ use Rattle.mm_step.specs.declared.profile.Profile.TheVariants.{Lenient}
 use Rattle.mm_rules.specs.declared.rule.Rule.TheVariants as rules
 use Rattle.mm_check.specs.Alone.{AreStepsBefore}
 use Rattle.mm_rules.specs.Answer.{plain_refusal}
-use Rattle.mm_facts.specs.Explained.{judged_tokens}
 use Rattle.mm_facts.specs.Explained.{AreDetails, Detail, details_text, IsTokensFault}
 use Rattle.mm_verdict.specs.Reply.{text_of}
 use Rattle.mm_rules.specs.Verdict.{PlainRefusal, Refused, refusal_of, sentences}
@@ -62,7 +61,7 @@ push_cause-requires-clause-cause c =
     (token_texts c.args.tokens.now, c.args.fault.1, c.in_ok-cause.ensures.cause)
 
 pub returns : goal.returns
-returns c = λ label r.
+returns c = λ telling shown label r.
     let files : List PlainFile = map plain_file c.args.files.now in
     let st = c.args.reached.now.book.statements in
     let s : PlainStatement = plain_statement c.args.reached.now.statement in
@@ -98,9 +97,12 @@ returns c = λ label r.
       fault = rw c.requires.tokens at (of_reached files label c.args.reached.now r
           (λ before s. IsTokensFault Lenient before s tokens rule step) c.requires.fault);
       lines = c.args.lines.items;
-      shown = rw c.requires.tokens at (of_reached files label c.args.reached.now r
-          (λ before s. AreStepsBefore before s (judged_tokens tokens) step c.args.lines.items)
-          c.requires.shown);
+      shown = subst
+          (λ (ts : List PlainToken). AreStepsBefore telling files (sentences r.before) (sentence_of s)
+          ts step c.args.lines.items)
+          c.requires.placed
+          (of_reached files label c.args.reached.now r
+          (λ before s. AreStepsBefore telling files before s placed step c.args.lines.items) shown);
       details = told.0;
       explained = subst
           (λ (ts : List PlainToken). AreDetails files Lenient (sentences r.before) (sentence_of s) ts

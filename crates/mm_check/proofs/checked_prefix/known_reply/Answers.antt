@@ -1,5 +1,5 @@
 -- The tokens are those of the theorem's proof.
-use Rattle.std.proofs.Common.{◌≡◌, ◌≤◌, ◌∙◌, ℕ, List, length, map, ap, sym, subst, inr}
+use Rattle.std.proofs.Common.{◌≡◌, ◌≤◌, ◌∙◌, ℕ, List, length, map, ap, sym, subst, take, inl, inr}
 use Rattle.std.specs.List.{sum_by}
 use Rattle.std.proofs.lemmas.Result.{IfOk-weaker}
 use Rattle.mm_base.specs.MostBytes.{most_bytes}
@@ -14,6 +14,11 @@ use Rattle.mm_explain.specs.declared.read_to.Reached.{Reached}
 use Rattle.mm_explain.specs.Mirror.Reached.{HasReached}
 use Rattle.mm_explain.proofs.LoneProofs.LoneTheorems.{reached_fits}
 use Rattle.mm_check.proofs.KnownSteps.{reached_proof}
+use Rattle.mm_frame.specs.Sentence.{Sentence}
+use Rattle.mm_step.specs.declared.fault.ProofRule.{ProofRule}
+use Rattle.mm_step.specs.declared.profile.Profile.TheVariants.{Lenient}
+use Rattle.mm_proof.specs.Parsed.{OfProof}
+use Rattle.mm_facts.specs.Explained.{IsTokensFault}
 use Rattle.mm_check.proofs.checked_prefix.known_reply.Goals as goal
 
 -- the tokens of its statement's proof are those of the proof, and in room
@@ -64,10 +69,20 @@ fault_reply-requires-clause-room c =
 
 pub fault_reply-requires-clause-fault : goal.fault_reply-requires-clause-fault
 fault_reply-requires-clause-fault c =
+    let st : List Sentence = c.args.reached.now.book.statements in
+    let rule : ProofRule = c.in-Err-Rule.rule in
+    let step : ℕ = c.in-Err-Rule.step in
+    let Faulty : List Token → Type 0 = λ tokens. OfProof st c.args.reached.now.id.0
+    (λ index s. IsTokensFault Lenient (take index st) s (token_texts tokens) rule step) in
     let told = rw c.in-Err-Rule.field-0-is at c.in-Err-Rule.ensures.fault in
-    rw c.deref-in-Err-Rule.ensures.value (rw c.deref.ensures.value at told.1)
+    rw c.in-Err-Rule.field-0-is (subst Faulty (sym c.deref-in-Err-Rule.ensures.value)
+    (subst Faulty c.deref.ensures.value told.1))
 
 pub returns-in-Err-Rule : goal.returns-in-Err-Rule
 returns-in-Err-Rule c =
-    IfOk-weaker c.fault_reply.result _ _ (λ reply told label r. inr (inr (told label r)))
+    let told = rw c.in-Err-Rule.field-0-is at c.in-Err-Rule.ensures.fault in
+    IfOk-weaker c.fault_reply.result _ _
+    (λ reply is label r.
+    inr (inr (is c.args.telling
+    (λ index s number. inl (cc (c.in-Err-Rule.step-is, told.0), c.new.ensures.items)) label r)))
     c.fault_reply.ensures

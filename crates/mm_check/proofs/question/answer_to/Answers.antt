@@ -7,7 +7,9 @@ use Rattle.mm_axioms.specs.Users.{IsAssertionFault}
 use Rattle.mm_render.specs.Shown.{ShowsProof}
 use Rattle.mm_render.specs.ShownUses.{ShowsUses}
 use Rattle.mm_render.specs.Shorter.{IsMinimized}
+use Rattle.mm_verdict.specs.declared.question.Telling.TheVariants.{Letters}
 use Rattle.mm_check.specs.Reply.{IsFormText, IsFormTextFault, ListsUsers}
+use Rattle.mm_check.specs.Told.{TellsProof}
 use Rattle.mm_check.proofs.AnswersTold.{text_told}
 use Rattle.mm_check.proofs.question.answer_to.Goals as goal
 
@@ -28,6 +30,16 @@ returns-in-Show g c =
     (text_told c.args.checked.now.files label (λ statements text. ShowsProof statements label text)
     (λ statements fault. IsAskFault statements label fault) _ _
     c.proof_listing.ensures.shown c.proof_listing.ensures.fault c.text_reply.ensures)
+
+pub returns-in-Letters : goal.returns-in-Letters
+returns-in-Letters g c =
+    let label : List ℕ = c.args.label.now in
+    let files : List PlainFile = c.args.checked.now.files in
+    rw c.in-Letters.is
+    (text_told files label (λ statements text. TellsProof Letters files statements label text)
+    (λ statements fault. IsAskFault statements label fault) _ _
+    c.lettered_listing.ensures.told c.lettered_listing.ensures.fault
+    c.text_reply-in-Letters.ensures)
 
 pub returns-in-Uses : goal.returns-in-Uses
 returns-in-Uses g c =

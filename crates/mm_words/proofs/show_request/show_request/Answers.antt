@@ -8,7 +8,12 @@ returns-in-Some-clause-request c = λ words commands. c.in-Some.ensures.asked wo
   rows_of (found_of c.args.matches.now),
   commands,
   sym (c.as_bytes-label.ensures.value ∙ c.asked_word.ensures),
-  (c.is_given-known.ensures, c.is_given-essential.ensures, c.is_given-uses.ensures),
+  (
+    c.is_given-known.ensures,
+    c.is_given-letters.ensures,
+    c.is_given-essential.ensures,
+    c.is_given-uses.ensures,
+  ),
   sym c.in_ok-names.ensures,
 )
 
@@ -18,7 +23,13 @@ returns-clause-fault c = λ words commands. inr (inr (inr (inr (inl (
   _,
   _,
   _,
+  _,
   commands,
-  (c.is_given-known.ensures, c.is_given-essential.ensures, c.is_given-uses.ensures),
+  (
+    c.is_given-known.ensures,
+    c.is_given-letters.ensures,
+    c.is_given-essential.ensures,
+    c.is_given-uses.ensures,
+  ),
   c.in-None.ensures.none,
 )))))
