@@ -3,5 +3,6 @@ pub mod WordSets
 pub mod ScratchWords
 pub mod RowBounds
 pub mod Resting
+pub mod AcceptedProofs
 pub mod ShortestChains
 pub mod TypeCodes

@@ -8,3 +8,4 @@ pub mod Tables
 pub mod Shortening
 pub mod Chains
 pub mod Codes
+pub mod Accepted

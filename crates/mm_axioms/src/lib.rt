@@ -1,11 +1,15 @@
 //! What theorems depend on, and what depends on them.
 //! It answers `axioms` of one theorem and of all, `direct_users`, `all_users` and `chain`, from the
 //! assertions that each complete proof uses, as the verdict keeps them (`mm_step` finds them, in
-//! `used`). It stands on `mm_verdict` alone. Begin with `asked_axioms`, then `report` and `rows`,
-//! `users` or `chains`. What a theorem rests on is defined in `specs/Rests.antt` of `mm_rules`, who
-//! its users are in `specs/Users.antt`, why it depends on it in `specs/Chains.antt`.
+//! `used`); and where other proofs are at fault `accepted_users`. It stands on `mm_verdict` alone.
+//! Begin with `asked_axioms`, then `report` and `rows`, `users` or `chains`, and `accepted_uses`.
+//! What a theorem rests on is defined in `specs/Rests.antt` of `mm_rules`, who its users are in
+//! `specs/Users.antt`, by accepted proofs in `specs/Accepted.antt`, why it depends on it in
+//! `specs/Chains.antt`.
 #![tactic(auto)]
 
+mod accepted;
+mod accepted_uses;
 mod all_axioms;
 mod asked_axioms;
 mod bits;
@@ -16,6 +20,7 @@ mod rows;
 mod scratch;
 mod users;
 
+pub use accepted::accepted_users;
 pub use all_axioms::{all_axioms_text, push_marked};
 pub use asked_axioms::{all_users, axioms, chain, direct_users, essential_axioms, tables};
 pub use chains::ChainFault;

@@ -295,7 +295,7 @@ rests_within R n id count below rests = elim (cases_lt n count) [
   }) in cc)
 ]
 
-user_within : (all : Bool) (statements : List PlainStatement) (n id : ℕ) → UsesIt all statements n id → n < length (labels_in (sentences statements))
+pub user_within : (all : Bool) (statements : List PlainStatement) (n id : ℕ) → UsesIt all statements n id → n < length (labels_in (sentences statements))
 user_within false statements n id holds = use_within statements n id holds
 user_within true statements n id rests = rests_within (Uses statements) n id _ (use_within statements n) rests
 
