@@ -655,6 +655,7 @@ ends 1 'no top.mm 2 - X7 0\n' "$(note first.mm)" check top.mm terms.mm first.mm 
 ends 0 'tze\ntpl\n' "$(note empty.mm)" axioms th first.mm empty.mm
 ends 1 'ask A1 h\n' "$(note rests.mm)mm: the nearest label is th\n" axioms h first.mm rests.mm
 ends 1 'ask A1 zte\n' 'mm: the nearest label is tze\n' show --known zte first.mm
+ends 1 'ask A1 TH\n' 'mm: the nearest label is th\n' show TH first.mm
 ends 0 'same\n' "$(note empty.mm)" same th proof.txt saved.mm empty.mm
 ends 0 'yes 7 statements 1 proofs\n' "$(note twice.mm empty.mm rests.mm)" \
     check first.mm twice.mm empty.mm rests.mm
