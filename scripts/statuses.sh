@@ -325,6 +325,12 @@ ends 0 'th\n' '' users --all tpl first.mm
 ends 0 '' '' users th first.mm
 ends 1 'ask A2 tt\n' '' users tt first.mm
 ends 1 'ask A1 none\n' '' users --all none first.mm
+refused='mm: note: the database is refused: no faults.mm 3 p P14 2\n'
+ends 0 'q\n' "$refused" users p faults.mm
+ends 0 '' "$refused" users --all one faults.mm
+ends 1 'ask A1 nothing\n' "$refused" users nothing faults.mm
+ends 1 'no twice.mm 2 - M2 0\n' '' users p twice.mm
+ends 0 'half\nfull\n' "mm: note: 1 incomplete proof isn't counted\n" users step rests.mm
 ends 1 'ask A2 tze\n' '' try tze th.txt first.mm
 ends 0 '1 tze term 0\n2 tze term 0\n3 tpl term ( 0 + 0 )\n' '' show --known th first.mm
 ends 1 'ask A1 none\n' '' show --known none first.mm
@@ -801,6 +807,13 @@ ends 0 "${duplicate}1 proofs 35 25 9 4\n" '' minimize --list settled.mm
 ends 0 '0 proofs 0 0 0 0\n' '' minimize --list discouraged.mm
 prints shorter.mm minimize --all added.mm added.mm
 watched '\rmm: 3 of 3 theorems, 15 bytes saved\r\n' minimize --list added.mm
+watched 'mm: mm why faults.mm explains it\r\n' check faults.mm
+watched 'mm: mm why --strict faults.mm explains it\r\n' check --strict faults.mm
+watched '' faults faults.mm
+watched 'mm: tt is a hypothesis, stated by $f\r\n' users tt first.mm
+watched 'mm: tze is stated by $a, so it has no proof\r\n' show tze first.mm
+watched 'mm: cannot read nothing.mm\r\nmm: there is no such file\r\n' check nothing.mm
+watched 'mm: cannot read .\r\nmm: it is a folder\r\n' check .
 watched '\rmm: 3 of 3 theorems, 1 bytes saved\r\n' minimize --all added.mm added.mm
 watched 'mm: 42 bytes -> 37, 15 steps -> 10\r\n' minimize kk added.mm
 watched '' small --all added.mm added.mm

@@ -28,6 +28,15 @@ use Rattle.mm_rules.specs.declared.ask.AskFault.{AskFault}
 use Rattle.mm_verdict.specs.Faults.{HaveFaults}
 use Rattle.mm_rules.specs.declared.fault.CheckFault.TheVariants as fault
 use Rattle.mm_verdict.proofs.ReplyTexts.{accepted_with}
+use Rattle.std.proofs.Common.{Bool, ◌⊎◌, IfNone, Option}
+use Rattle.mm_rules.specs.declared.status.Status.{Status}
+use Rattle.mm_step.specs.declared.profile.Profile.TheVariants.{Lenient}
+use Rattle.mm_rules.specs.declared.ask.AskFault.TheVariants as ask
+use Rattle.mm_axioms.specs.Accepted.{AreMeant, ListsAcceptedUsers}
+use Rattle.mm_axioms.specs.Users.{IsAssertionFault}
+use Rattle.mm_verdict.specs.declared.question.Question.{Question}
+use Rattle.mm_verdict.specs.declared.question.Question.TheVariants as question
+use Rattle.mm_check.specs.Reply.{AreNotAccepted, IsAboutReply, IsAnswerTo, IsUsersReply}
 
 -- ==== the text and the status that tell a verdict are those of the reply
 
@@ -131,7 +140,7 @@ question_read profile files answer c Answers text status is holds same under ans
     )
 
 -- the refusal of the files
-refused_at : (profile : Profile) (files : List PlainFile) (fault : CheckFault) (text : List ℕ)
+pub refused_at : (profile : Profile) (files : List PlainFile) (fault : CheckFault) (text : List ℕ)
     (status : ℕ)
     → ((verdict : Verdict) → verdict_of_fault fault ≡ Some verdict
     → HasVerdict profile files verdict)
@@ -167,3 +176,87 @@ question_refused profile files answer fault Answers text status is holds said en
     λ a. IfSome (verdict_of_answer a) (λ verdict. status ≡ status_of verdict) in
     inl (refused_at profile files fault text status (subst Holds is holds) (subst Said is said)
     (subst Ends is ends))
+
+-- ---- questions about a label
+
+-- any question but that for users is answered over what is accepted
+pub other_question : (asked : Question) (files : List PlainFile) (label text : List ℕ) (status : ℕ)
+    → ((all : Bool) → asked ≡ question.Users all → ⊥)
+    → IsQuestionReply Lenient files (IsAnswerTo Lenient asked files label) text status
+    → IsAboutReply asked files label text status
+other_question (question.Users all) files label text status other told = absurd (other all refl)
+other_question (question.Axioms essential) files label text status other told = told
+other_question (question.Chain to) files label text status other told = told
+other_question question.Show files label text status other told = told
+other_question (question.Uses essential) files label text status other told = told
+other_question (question.Form form whole) files label text status other told = told
+other_question (question.Same proof) files label text status other told = told
+other_question question.Minimized files label text status other told = told
+
+-- the answer over the statements of the files that are kept
+pub users_read : (all : Bool) (files : List PlainFile) (answer : Result Conclusion CheckFault)
+    (c : Conclusion) (label text : List ℕ) (status : ℕ) → answer ≡ Ok c
+    → IsVerdict Lenient files answer → KeepsFiles files c → c.profile ≡ Lenient
+    → ((statements : List PlainStatement) → Reads c.files statements None
+    → IsAnswerTo c.profile (question.Users all) c.files label statements text status)
+    → IsUsersReply all files label text status
+users_read all files answer c label text status is holds same under answers =
+    let has : HasVerdict Lenient files (verdict_of_conclusion c) =
+    holds (verdict_of_conclusion c) (ap verdict_of_answer is) in
+    let found = accepted_with Lenient files c c.incomplete has in
+    let reads = subst (λ (fs : List PlainFile). Reads fs found.0 None) (sym same) found.1.reads in
+    inl (
+      found.0,
+      found.1,
+      subst (λ (p : Profile). IsAnswerTo p (question.Users all) files label found.0 text status)
+          under
+          (subst (λ (fs : List PlainFile).
+          IsAnswerTo c.profile (question.Users all) fs label found.0 text status) same
+          (answers found.0 reads)),
+    )
+
+module _ (all : Bool) (files : List PlainFile) (label : List ℕ)
+    (fault : CheckFault) (refused : Reply)
+    (holds : (verdict : Verdict) → verdict_of_fault fault ≡ Some verdict
+    → HasVerdict Lenient files verdict)
+    (said : Tells files (Err fault) refused.text.items)
+    (ends : IfSome (verdict_of_fault fault)
+    (λ verdict. number_of refused.status ≡ status_of verdict)) where
+  is_refused : IsRefused Lenient files refused.text.items (number_of refused.status)
+  is_refused = refused_at Lenient files fault refused.text.items (number_of refused.status) holds
+      said ends
+
+  not_accepted : AreNotAccepted files
+  not_accepted = (is_refused.verdict, is_refused.holds, is_refused.refuses)
+
+  -- the users by accepted proofs are told, or the refusal
+  pub users_beside : (found : Option (Vec ℕ)) (reply : Reply)
+      → IfSome found (λ text. (statements : List PlainStatement) × AreMeant files statements
+      × ListsAcceptedUsers all statements label text.items)
+      → IfNone found ((statements : List PlainStatement) → ¬ (AreMeant files statements))
+      → MatchOption found
+      ((reply.text.items ≡ refused.text.items) × (reply.status ≡ refused.status))
+      (λ text. (reply.text.items ≡ text.items) × (number_of reply.status ≡ 0))
+      → IsUsersReply all files label reply.text.items (number_of reply.status)
+  users_beside None reply some none (text, status) =
+      subst (λ (t : List ℕ). IsUsersReply all files label t (number_of reply.status)) (sym text)
+      (subst (λ (s : Status). IsUsersReply all files label refused.text.items (number_of s))
+      (sym status) (inr (inr (none, is_refused))))
+  users_beside (Some told) reply (statements, meant, lists) none (text, done) =
+      inr (inl (
+        statements,
+        meant,
+        not_accepted,
+        inr (subst (ListsAcceptedUsers all statements label) (sym text) lists, done),
+      ))
+
+  -- or why there are none
+  pub no_users_beside : (why : AskFault) (told : List ℕ) (status : ℕ)
+      → (why ≡ ask.Memory)
+      ⊎ ((statements : List PlainStatement) × AreMeant files statements
+      × IsAssertionFault statements label why)
+      → IsAskReply why label told status → IsUsersReply all files label told status
+  no_users_beside why told status (inl memory) says =
+      absurd (subst (λ (f : AskFault). IsAskReply f label told status) memory says)
+  no_users_beside why told status (inr (statements, meant, faulty)) says =
+      inr (inl (statements, meant, not_accepted, inl (why, faulty, says)))

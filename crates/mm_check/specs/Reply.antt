@@ -39,6 +39,7 @@ use Rattle.mm_verdict.specs.declared.question.WholeQuestion.{WholeQuestion}
 use Rattle.mm_verdict.specs.declared.question.WholeQuestion.TheVariants.{Check, Faults, Why}
 use Rattle.mm_verdict.specs.declared.question.WholeQuestion.TheVariants.{Axioms as AllAxioms}
 use Rattle.mm_verdict.specs.declared.question.WholeQuestion.TheVariants.{Shorter as AllShorter}
+use Rattle.mm_axioms.specs.Accepted.{AreMeant, ListsAcceptedUsers}
 use Rattle.mm_axioms.specs.Users.{IsAssertionFault, AreUsers}
 use Rattle.mm_axioms.specs.Essential.{IsEssentialReport}
 use Rattle.mm_rules.specs.Rests.{IsAskFault, IsReport}
@@ -283,6 +284,34 @@ abbrev pub IsLemmasReply : (most least : ℕ) → List PlainFile → List ℕ �
 IsLemmasReply most least files text status =
     IsQuestionReply Lenient files (IsListAnswer (ListsLemmas most least) Lenient files) text status
 
+-- ---- the users of an assertion
+
+-- the lenient profile refuses the files
+abbrev pub AreNotAccepted : List PlainFile → Type 0
+AreNotAccepted files =
+    (verdict : Verdict) × HasVerdict Lenient files verdict × IsRefusal verdict
+
+-- The reply to the question who uses the assertion with a label, or who rests on it. Where proofs
+-- alone are at fault, those that are accepted count; where a rule of the text or of meaning is
+-- broken, or the files can't be taken, it is the refusal.
+abbrev pub IsUsersReply : (all : Bool) → List PlainFile → (label : List ℕ) → List ℕ → ℕ → Type 0
+IsUsersReply all files label text status =
+    ((statements : List PlainStatement) × AreAccepted Lenient files statements
+    × IsAnswerTo Lenient (question.Users all) files label statements text status)
+    ⊎ (((statements : List PlainStatement) × AreMeant files statements × AreNotAccepted files
+    × IsTextReply (ListsAcceptedUsers all statements label) (IsAssertionFault statements label)
+    label text status)
+    ⊎ (((statements : List PlainStatement) → ¬ (AreMeant files statements))
+    × IsRefused Lenient files text status))
+
+-- The reply to a question about the statement with a label: that to who uses it; else the refusal,
+-- or the answer over the statements that the lenient profile accepts.
+abbrev pub IsAboutReply : Question → List PlainFile → (label : List ℕ) → List ℕ → ℕ → Type 0
+IsAboutReply (question.Users all) files label text status =
+    IsUsersReply all files label text status
+IsAboutReply asked files label text status =
+    IsQuestionReply Lenient files (IsAnswerTo Lenient asked files label) text status
+
 -- ---- one theorem alone
 
 -- The reply where the files can't be taken, or are refused before it is known what stands at the
@@ -402,12 +431,11 @@ IsWholeReply AllShorter profile files text status =
 
 -- This is the text and the status of the reply to a command. Questions about a theorem, and those for
 -- a file, are answered where the lenient profile accepts the files; those about a theorem alone, or
--- about a statement, where the statements up to it break no rule of meaning; and assertions are found
--- where no statement does.
+-- about a statement, where the statements up to it break no rule of meaning; and assertions are found,
+-- and their users, where no statement does.
 abbrev pub IsReplyTo : List PlainFile → Command → List ℕ → ℕ → Type 0
 IsReplyTo files (Whole profile asked) text status = IsWholeReply asked profile files text status
-IsReplyTo files (About label asked) text status =
-    IsQuestionReply Lenient files (IsAnswerTo Lenient asked files label.now) text status
+IsReplyTo files (About label asked) text status = IsAboutReply asked files label.now text status
 IsReplyTo files (Lone label asked) text status = IsLoneReply asked files label.now text status
 IsReplyTo files (Statement label) text status = IsStatementReply files label.now text status
 IsReplyTo files (File wanted number) text status =

@@ -4,13 +4,14 @@ ghost use Rattle.std.specs.Prelude.{◌≡◌, ◌+◌, ◌<◌, ◌↔◌, map,
 ghost use Rattle.mm_text.specs.Files.{plain_file};
 ghost use Rattle.mm_text.specs.Device.{faults_of, inner_of};
 ghost use Rattle.mm_rules.specs.Status.{number_of};
-ghost use Rattle.mm_check.specs.Reply.{AsksHanded, IsReplyTo, Writes};
+ghost use Rattle.mm_check.specs.Reply.{AsksHanded, IsAboutReply, IsReplyTo, Writes};
 ghost use Rattle.mm_check.specs.Reply.{WritesBeginningOf};
 ghost use Rattle.mm_check.specs.declared.command.RunFault.TheVariants.{Memory};
 
 use crate::accepted::{Asked, checked_reply};
 use crate::alone::lone_reply;
 use crate::stated::statement_reply;
+use crate::users::users_reply;
 use crate::whole::{all_saved_reply, lemmas_reply, whole_reply};
 use mm_base::{File, Seed};
 use mm_find::{Sought, find_reply};
@@ -42,10 +43,35 @@ impl From<AllocError> for RunFault {
     }
 }
 
+/// The reply to a question about the statement with a label.
+fn about_reply<W: SearchWatch>(
+    alloc: Global,
+    seed: Seed,
+    files: &[File],
+    label: &[u8],
+    question: &Question,
+    watch: &mut W,
+) -> Result<Reply, AllocError>
+    ensures { IfOk result (λ reply. IsAboutReply question.now (map plain_file files.now) label.now
+        reply.text.items (number_of reply.status)) }
+{
+    match question {
+        Question::Users { all } => users_reply(alloc, seed, files, label, *all, watch),
+        _ => {
+            let asked = Asked::About {
+                label,
+                question: *question,
+            };
+            checked_reply(alloc, seed, Profile::Lenient, files, asked, watch)
+        }
+    }
+}
+
 /// The reply to a command over the files, the first of which is the top file, before it is written.
 /// Where shorter proofs are looked for in all of them, the watch is told after each theorem how far
 /// this has come; where lemmas are, after each of them. Where shorter proofs are looked for at all,
-/// it is told what that came to, and where a search for lemmas is broken off, that it is.
+/// it is told what that came to, and where a search for lemmas is broken off, that it is; where users
+/// are told, also which proofs don't count.
 pub fn reply_to<W: SearchWatch>(
     alloc: Global,
     seed: Seed,
@@ -62,11 +88,7 @@ pub fn reply_to<W: SearchWatch>(
             whole_reply(alloc, seed, files, *profile, *question, watch)
         }
         Command::About { label, question } => {
-            let asked = Asked::About {
-                label: *label,
-                question: *question,
-            };
-            checked_reply(alloc, seed, Profile::Lenient, files, asked, watch)
+            about_reply(alloc, seed, files, label, question, watch)
         }
         Command::Lone { label, question } => lone_reply(alloc, seed, files, label, question),
         Command::Statement(label) => statement_reply(alloc, seed, files, label),

@@ -131,7 +131,8 @@ Examples:
 const USERS: &str = "Usage: mm users [--all] LABEL FILES..
 
 Checks the database, and lists the theorems whose proofs use the assertion with
-this label. An unfinished proof uses nothing.
+this label. A proof that is unfinished or at fault uses nothing: standard error
+then has a note on that.
 
 Options:
   --all   the theorems that rest on it: by their own proofs, or by those of
@@ -145,7 +146,7 @@ Replies:
   ask A2 LABEL                                                      status 1
       It is the label of a hypothesis.
   no, limit or load                                                 status 1, 4
-      The database is refused: `mm help check`.
+      A statement breaks a rule of the text or of meaning: `mm help check`.
 
 Example:
   mm users ax-mp set.mm

@@ -166,7 +166,7 @@ Replies of axioms, on standard output:
 
 Reply of users, on standard output:
   LABEL, one on each line
-      The theorems, in the order of the database. Status 0.
+      The theorems, in the order of the database, by proofs that are accepted. Status 0.
 
 Reply of statement, on standard output:
   FILE:LINE:COLUMN, and then lines as they stand in the file, without their ends

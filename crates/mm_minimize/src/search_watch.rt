@@ -1,9 +1,9 @@
-//! What a search came to, told beside the reply.
+//! What a search came to, and which proofs users were sought among, told beside the reply.
 
 use crate::shorter_list::Sizes;
 use mm_verdict::{Unwatched, Watch};
 
-/// What a search for shorter proofs, or for lemmas, came to.
+/// What a search for shorter proofs, for lemmas or for users came to.
 #[derive(Clone, Copy)]
 pub enum Searched {
     /// So many theorems were left as they are, as their proofs are too long to search.
@@ -19,10 +19,14 @@ pub enum Searched {
     },
     /// The search for lemmas was broken off, as it took too long.
     BrokenOff,
+    /// Proofs are at fault, and aren't counted among the users of an assertion.
+    Faulty,
+    /// So many proofs are incomplete, and aren't counted among the users of an assertion.
+    Incomplete(usize),
 }
 
-/// What is told how far a search for shorter proofs, or for lemmas, has come, and what it came to.
-/// It answers nothing.
+/// What is told how far a search for shorter proofs, or for lemmas, has come, and what such a search,
+/// or one for users, came to. It answers nothing.
 pub trait SearchWatch: Watch {
     /// The search came to its end.
     fn searched(&mut self, searched: Searched);

@@ -72,7 +72,10 @@ pub(crate) const LETTERS: [(Command<'static>, Case); 5] = [
         },
         Case {
             name: "the letters of an incomplete proof",
-            files: &[(b"cat.mm", &[Text(CAT), Text(b"th $p e $= ( nil ) A ? $.\n")])],
+            files: &[(
+                b"cat.mm",
+                &[Text(CAT), Text(b"th $p e $= ( nil ) A ? $.\n")],
+            )],
             reply: b"ask A3 th\n",
             status: 3,
         },

@@ -592,6 +592,11 @@ fn all_users_of_assertions(rt: HostRuntime) -> Result<(), Fail> {
 }
 
 #[test]
+fn users_beside_faults(rt: HostRuntime) -> Result<(), Fail> {
+    compare_commands(&rt, rt.alloc(), &users::USERS_BESIDE_FAULTS)
+}
+
+#[test]
 fn unanswered_users(rt: HostRuntime) -> Result<(), Fail> {
     compare_commands(&rt, rt.alloc(), &users::USERS_UNANSWERED)
 }

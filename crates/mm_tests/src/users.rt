@@ -229,6 +229,108 @@ pub(crate) const USERS_UNANSWERED: [(Command<'static>, Case); 4] = [
     ),
 ];
 
+/// A database in which `p` is at fault, and `u` unproved: `q` and `t` use `one`, `r` uses `p`, and
+/// `w` uses `q`.
+const FAULTY: &[u8] = b"\
+$c a $.
+one $a a $.
+${ h $e a $. two $a a $. $}
+p $p a $= one one $.
+q $p a $= one $.
+r $p a $= p $.
+u $p a $= one ? $.
+t $p a $= one two $.
+w $p a $= q two $.
+";
+
+/// Where proofs are at fault.
+pub(crate) const USERS_BESIDE_FAULTS: [(Command<'static>, Case); 7] = [
+    (
+        About {
+            label: b"one",
+            question: Question::Users { all: false },
+        },
+        Case {
+            name: "a faulty proof uses nothing",
+            files: &[(b"f.mm", &[Text(FAULTY)])],
+            reply: b"q\nt\n",
+            status: 0,
+        },
+    ),
+    (
+        About {
+            label: b"p",
+            question: Question::Users { all: false },
+        },
+        Case {
+            name: "what a faulty theorem is used by",
+            files: &[(b"f.mm", &[Text(FAULTY)])],
+            reply: b"r\n",
+            status: 0,
+        },
+    ),
+    (
+        About {
+            label: b"one",
+            question: Question::Users { all: true },
+        },
+        Case {
+            name: "nothing rests on it through a faulty proof",
+            files: &[(b"f.mm", &[Text(FAULTY)])],
+            reply: b"q\nt\nw\n",
+            status: 0,
+        },
+    ),
+    (
+        About {
+            label: b"nope",
+            question: Question::Users { all: false },
+        },
+        Case {
+            name: "no label beside a fault",
+            files: &[(b"f.mm", &[Text(FAULTY)])],
+            reply: b"ask A1 nope\n",
+            status: 1,
+        },
+    ),
+    (
+        About {
+            label: b"h",
+            question: Question::Users { all: true },
+        },
+        Case {
+            name: "a hypothesis beside a fault",
+            files: &[(b"f.mm", &[Text(FAULTY)])],
+            reply: b"ask A2 h\n",
+            status: 1,
+        },
+    ),
+    (
+        About {
+            label: b"one",
+            question: Question::Users { all: false },
+        },
+        Case {
+            name: "a rule of meaning is broken further down",
+            files: &[(b"f.mm", &[Text(FAULTY), Text(b"z $a b $.\n")])],
+            reply: b"no f.mm 4 p P13 3\n",
+            status: 1,
+        },
+    ),
+    (
+        About {
+            label: b"one",
+            question: Question::Users { all: true },
+        },
+        Case {
+            name: "a rule of the text is broken further down",
+            files: &[(b"f.mm", &[Text(FAULTY), Text(b"${\n")])],
+            reply: b"no f.mm 4 p P13 3\n",
+            status: 1,
+        },
+    ),
+];
+
 const LINES: Command<'static> = Whole {
     profile: Profile::Lenient,
     question: WholeQuestion::Axioms { essential: false },

@@ -33,7 +33,8 @@ use Rattle.mm_base.specs.declared.file.File.{File}
 use Rattle.mm_text.specs.Included.{AlikeFilesLeaveOutTheSame, is_left_out, left_out}
 use Rattle.mm_base.proofs.Lists.{all_at, all_weaker}
 use Rattle.mm_verdict.proofs.AlikeVerdicts.{alike_back, breaks_alike, name_alike}
-use Rattle.mm_tool.specs.Ending.{AreAllNotes, label_of}
+use Rattle.mm_tool.specs.Ending.{AreAllNotes, IsRefusedNote, label_of}
+use Rattle.mm_minimize.specs.declared.search_watch.Searched.{Searched}
 use Rattle.mm_explain.specs.Near.{IsLabelIn}
 use Rattle.mm_tool.specs.Notes.{AreLeftOut, AreNotesBeside, AreNotesOn, IsNearLine, near_line}
 use Rattle.mm_rules.specs.declared.ask.AskFault.TheVariants.{Rule}
@@ -296,6 +297,18 @@ notes_over law LeftOut command max only wholes reads all within reply notes besi
       whole = beside.whole;
     }
 
+-- So is the line on why the database is refused.
+refused_over : (comments : Comments) (command : Command) (max : ℕ)
+    → (comments ≡ LeftOut → ((profile : Profile) × (command ≡ Whole profile Check)) × (max ≤ most_bytes))
+    → (wholes reads : List PlainFile) → AllZip (IsReadAs comments) wholes reads
+    → (searched : Option Searched) (line : List ℕ) → IsRefusedNote reads command searched line
+    → IsRefusedNote wholes command searched line
+refused_over Kept command max only wholes reads all searched line is =
+    subst (λ files. IsRefusedNote files command searched line) (same_files wholes reads all) is
+refused_over LeftOut command max only wholes reads all searched line is =
+    let ((profile, check), most) = only refl in
+    let none : line ≡ [] = rw check at is in rw check none
+
 -- So are all notes.
 pub all_notes_over : AlikeFilesLeaveOutTheSame → (comments : Comments) (command : Command)
     (max : ℕ)
@@ -308,5 +321,8 @@ all_notes_over law comments command max only wholes reads all within reply notes
   searched = are.searched;
   are_beside = notes_over law comments command max only wholes reads all within reply are.beside
       are.are_beside;
+  refused = are.refused;
+  is_refused = refused_over comments command max only wholes reads all are.searched are.refused
+      are.is_refused;
   whole = are.whole;
 }

@@ -13,11 +13,14 @@ use Rattle.mm_text.specs.declared.counted.Counted.{Counted}
 use Rattle.mm_check.specs.Reply.{IsReplyTo}
 use Rattle.mm_rules.specs.Status.{number_of}
 use Rattle.mm_minimize.specs.declared.search_watch.Searched.{Searched}
+use Rattle.mm_minimize.specs.declared.search_watch.Searched.TheVariants.{Faulty}
+use Rattle.mm_step.specs.declared.profile.Profile.TheVariants.{Lenient}
 use Rattle.mm_verdict.specs.declared.question.Command.{Command}
 use Rattle.mm_code.specs.Layout.{texts}
 use Rattle.mm_verdict.specs.declared.question.Command.TheVariants.{Whole, About, File, Lone, Shorter}
 use Rattle.mm_verdict.specs.declared.question.Command.TheVariants.{Find, Statement, Lemmas}
-use Rattle.mm_verdict.specs.declared.question.Question.TheVariants.{Same}
+use Rattle.mm_verdict.specs.declared.question.Question.TheVariants.{Same, Users}
+use Rattle.mm_verdict.specs.declared.question.WholeQuestion.TheVariants.{Check}
 use Rattle.mm_verdict.specs.declared.question.LoneQuestion.TheVariants as lone
 use Rattle.mm_words.specs.declared.request.TextQuestion.{TextQuestion}
 use Rattle.mm_words.specs.declared.request.TextQuestion.TheVariants as of_text
@@ -29,7 +32,7 @@ use Rattle.mm_tool.specs.Answer.{Outcome, quiet}
 use Rattle.mm_help.specs.Explained.{IsExplanation, IsUnknownCode}
 use Rattle.mm_help.specs.Help.{IsHelp, IsUnknownCommand}
 use Rattle.mm_words.specs.Unread.{unread_stop}
-use Rattle.mm_tool.specs.Notes.{AreNotesBeside, search_line}
+use Rattle.mm_tool.specs.Notes.{AreNotesBeside, refused_note, search_line}
 use Rattle.mm_words.specs.Words.{AsksHelp, AsksVersion, AsksExplain, AsksRun, AsksText}
 use Rattle.mm_words.specs.Words.{AreRefusedWords, AsksDiff}
 use Rattle.mm_tool.specs.Versions.{IsDiffReplyOver, IsVersionUnreadable}
@@ -78,14 +81,28 @@ label_of (Shorter number duplicates) = None
 label_of (Lemmas most least) = None
 label_of (Find patterns whole hypotheses) = None
 
--- These are the notes beside the reply to the command, and then the line on what a search came to.
--- What it came to isn't said.
+-- Where proofs are at fault, the line that says why the database is refused; else nothing.
+abbrev pub IsFaultyNote : List PlainFile → Option Searched → (line : List ℕ) → Type 0
+IsFaultyNote files (Some Faulty) line =
+    (text : List ℕ) × (status : ℕ) × IsReplyTo files (Whole Lenient Check) text status
+    × (line ≡ refused_note text)
+IsFaultyNote files searched line = line ≡ []
+
+-- Of a command for users this line; of another nothing.
+abbrev pub IsRefusedNote : List PlainFile → Command → Option Searched → (line : List ℕ) → Type 0
+IsRefusedNote files (About label (Users all)) searched line = IsFaultyNote files searched line
+IsRefusedNote files command searched line = line ≡ []
+
+-- These are the notes beside the reply to the command, then the line on what a search came to, and
+-- why the database is refused where users are told all the same. What it came to isn't said.
 pub record AreAllNotes (files : List PlainFile) (command : Command) (reply notes : List ℕ)
     : Type 0 where
   pub beside : List ℕ
   pub searched : Option Searched
   pub are_beside : AreNotesBeside files (label_of command) reply beside
-  pub whole : notes ≡ beside ++ search_line command searched
+  pub refused : List ℕ
+  pub is_refused : IsRefusedNote files command searched refused
+  pub whole : notes ≡ (beside ++ search_line command searched) ++ refused
 
 -- This is the reply to the command over the files with these names, with the notes beside it; or
 -- the one that says that they hold too many bytes.

@@ -15,7 +15,7 @@ use Rattle.mm_minimize.specs.declared.search_watch.Searched.{Searched}
 use Rattle.mm_minimize.specs.declared.search_watch.Searched.TheVariants as of_search
 use Rattle.mm_verdict.specs.declared.question.Command.{Command}
 use Rattle.mm_verdict.specs.declared.question.Command.TheVariants as commands
-use Rattle.mm_verdict.specs.declared.question.Question.TheVariants.{Minimized}
+use Rattle.mm_verdict.specs.declared.question.Question.TheVariants.{Minimized, Users}
 use Rattle.mm_verdict.specs.declared.question.WholeQuestion.TheVariants as questions
 use Rattle.mm_verdict.specs.Reply.{IsAskReply}
 
@@ -92,8 +92,20 @@ left_note count =
 abbrev pub change_text : (first : List ℕ) → ℕ → (second : List ℕ) → ℕ → List ℕ
 change_text first old second new = first ++ (decimal old ++ (second ++ decimal new))
 
+-- the line on how many incomplete proofs don't count among users
+abbrev pub incomplete_note : ℕ → List ℕ
+incomplete_note count =
+    if count == 1 then codes "mm: note: 1 incomplete proof isn't counted\n"
+    else codes "mm: note: " ++ (decimal count ++ codes " incomplete proofs aren't counted\n")
+
+-- the line that says why the database is refused, where users are told all the same: as `check`
+-- tells it
+abbrev pub refused_note : List ℕ → List ℕ
+refused_note refusal = codes "mm: note: the database is refused: " ++ refusal
+
 -- the line on what a search came to: how many theorems were left; or of one theorem the sizes of
--- its own proof and of a shorter one, if one was found; or that a search for lemmas was broken off
+-- its own proof and of a shorter one, if one was found; or that a search for lemmas was broken off;
+-- or how many incomplete proofs don't count among users. That proofs are at fault has another line.
 abbrev pub searched_line : Searched → List ℕ
 searched_line (of_search.Left count) = left_note count
 searched_line of_search.NoneShorter = codes "mm: no shorter proof was found\n"
@@ -102,13 +114,16 @@ searched_line (of_search.Shorter own new) =
     ++ (change_text (codes ", ") own.steps (codes " steps -> ") new.steps ++ codes "\n")
 searched_line of_search.BrokenOff =
     codes "mm: note: the search was broken off, as it took too long\n"
+searched_line of_search.Faulty = []
+searched_line (of_search.Incomplete count) = incomplete_note count
 
--- Of a command that searches for shorter proofs, or for lemmas, the line on what it came to, where
--- it came to something; of another nothing.
+-- Of a command that searches for shorter proofs, for lemmas or for users, the line on what it came
+-- to, where it came to something; of another nothing.
 abbrev pub search_line : Command → Option Searched → List ℕ
 search_line asked None = []
 search_line (commands.Whole profile questions.Shorter) (Some searched) = searched_line searched
 search_line (commands.About label Minimized) (Some searched) = searched_line searched
+search_line (commands.About label (Users all)) (Some searched) = searched_line searched
 search_line (commands.Shorter number duplicates) (Some searched) = searched_line searched
 search_line (commands.Lemmas most least) (Some searched) = searched_line searched
 search_line other (Some searched) = []

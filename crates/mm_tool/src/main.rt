@@ -4,6 +4,7 @@
 mod answer;
 mod files;
 mod folder;
+mod hint;
 mod label_note;
 mod notes;
 mod progress_line;

@@ -32,6 +32,8 @@ pub(crate) struct ProgressLine<P> {
     stands: bool,
     /// What a search came to.
     searched: Option<Searched>,
+    /// What is told behind the notes.
+    hint: Option<Vec<u8>>,
 }
 
 /// What a search came to, where no line is shown.
@@ -88,7 +90,22 @@ impl<P> ProgressLine<P> {
             is_shown,
             stands: false,
             searched: None,
+            hint: None,
         }
+    }
+
+    /// Whether anything is shown there.
+    pub(crate) fn is_shown(&self) -> bool
+        ensures { result ≡ self.now.is_shown }
+    {
+        self.is_shown
+    }
+
+    /// Keeps a hint, where there is one.
+    pub(crate) fn keep(&mut self, hint: Option<Vec<u8>>)
+        ensures { self.new.is_shown ≡ self.old.is_shown }
+    {
+        self.hint = hint;
     }
 }
 
@@ -106,6 +123,30 @@ impl<P: Write> ProgressLine<P> {
             let _ = say_text(&mut self.device, b"\n");
         }
         self.stands = false;
+    }
+
+    /// Writes a text, where one is to be shown. A device that failed isn't called again.
+    pub(crate) fn tell_text(&mut self, text: &[u8])
+        ensures failed { 0 < faults_of self.old.device
+            → IsUntouched self.old.device self.new.device }
+        ensures told { faults_of self.old.device ≡ 0
+            → TellsLine P.contents text.now self.old.device self.new.device }
+    {
+        if self.device.faults() == 0 {
+            let _ = say_text(&mut self.device, text);
+        }
+    }
+
+    /// Tells the hint that is kept, where hints are shown.
+    pub(crate) fn tell_hint(&mut self)
+        ensures { StaysUnshown self.old self.new }
+    {
+        if !self.is_shown {
+            return;
+        }
+        if let Some(hint) = self.hint.take() {
+            self.tell_text(&hint);
+        }
     }
 
     /// Writes the line anew. A device that failed isn't called again.

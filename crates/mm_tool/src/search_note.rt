@@ -2,17 +2,27 @@
 
 ghost use Rattle.std.specs.Prelude.{◌≡◌, ◌++◌, map, IfOk, OnOk};
 ghost use Rattle.mm_text.specs.Files.{plain_file};
-ghost use Rattle.mm_tool.specs.Ending.{AreAllNotes};
-ghost use Rattle.mm_tool.specs.Notes.{change_text, left_note, many_left_note, search_line};
-ghost use Rattle.mm_tool.specs.Notes.{searched_line};
+ghost use Rattle.std.specs.Prelude.{List, ℕ};
+ghost use Rattle.mm_tool.specs.Ending.{AreAllNotes, IsFaultyNote, IsRefusedNote};
+ghost use Rattle.mm_tool.specs.Notes.{change_text, incomplete_note, left_note, many_left_note};
+ghost use Rattle.mm_tool.specs.Notes.{search_line, searched_line};
 
 use crate::label_note::notes_beside;
 use crate::progress_line::Watched;
 use mm_base::{File, Seed};
-use mm_check::{Command, Question, WholeQuestion};
+use mm_check::{Command, Question, WholeQuestion, reply_to};
 use mm_minimize::Searched;
 use mm_rules::push_decimal;
+use mm_step::Profile;
+use mm_verdict::Unwatched;
 use std::alloc::{AllocError, Global};
+
+/// The command whose reply tells why a database is refused. The files of two versions are read as for
+/// it.
+pub(crate) const CHECK: Command<'static> = Command::Whole {
+    profile: Profile::Lenient,
+    question: WholeQuestion::Check,
+};
 
 /// Appends the line on so many theorems that were left as they are.
 fn push_many_left(notes: &mut Vec<u8>, count: usize) -> Result<(), AllocError>
@@ -55,6 +65,18 @@ fn push_change(
     push_decimal(notes, new)
 }
 
+/// Appends the line on how many incomplete proofs don't count.
+fn push_incomplete(notes: &mut Vec<u8>, count: usize) -> Result<(), AllocError>
+    ensures { OnOk result (notes.new.items ≡ notes.old.items ++ incomplete_note count) }
+{
+    if count == 1 {
+        return notes.extend_from_slice(b"mm: note: 1 incomplete proof isn't counted\n");
+    }
+    notes.extend_from_slice(b"mm: note: ")?;
+    push_decimal(notes, count)?;
+    notes.extend_from_slice(b" incomplete proofs aren't counted\n")
+}
+
 /// Appends the line on what a search came to.
 fn push_searched(notes: &mut Vec<u8>, searched: Searched) -> Result<(), AllocError>
     ensures { OnOk result (notes.new.items ≡ notes.old.items ++ searched_line searched) }
@@ -70,6 +92,9 @@ fn push_searched(notes: &mut Vec<u8>, searched: Searched) -> Result<(), AllocErr
         Searched::BrokenOff => notes.extend_from_slice(
             b"mm: note: the search was broken off, as it took too long\n",
         ),
+        // Why the database is refused is told apart.
+        Searched::Faulty => Ok(()),
+        Searched::Incomplete(count) => push_incomplete(notes, count),
     }
 }
 
@@ -91,7 +116,7 @@ fn push_search_line(
             ..
         }
         | Command::About {
-            question: Question::Minimized,
+            question: Question::Minimized | Question::Users { .. },
             ..
         }
         | Command::Shorter { .. }
@@ -100,7 +125,53 @@ fn push_search_line(
     }
 }
 
-/// The notes beside the reply to a command over the files, and what a search came to.
+/// Where proofs are at fault, appends the line that says why the database is refused. This is asked
+/// anew, as it is seldom so.
+fn push_faulty(
+    notes: &mut Vec<u8>,
+    alloc: Global,
+    seed: Seed,
+    files: &[File],
+    searched: Option<Searched>,
+) -> Result<(), AllocError>
+    ensures { OnOk result ((line : List ℕ)
+        × IsFaultyNote (map plain_file files.now) searched line
+        × (notes.new.items ≡ notes.old.items ++ line)) }
+{
+    match searched {
+        Some(Searched::Faulty) => {
+            let reply = reply_to(alloc, seed, &CHECK, files, &mut Unwatched)?;
+            notes.extend_from_slice(b"mm: note: the database is refused: ")?;
+            notes.extend_from_slice(&reply.text)
+        }
+        _ => Ok(()),
+    }
+}
+
+/// Appends this line, where the command is one for users.
+fn push_refused(
+    notes: &mut Vec<u8>,
+    alloc: Global,
+    seed: Seed,
+    files: &[File],
+    command: &Command<'_>,
+    searched: Option<Searched>,
+) -> Result<(), AllocError>
+    ensures { OnOk result ((line : List ℕ)
+        × IsRefusedNote (map plain_file files.now) command.now searched line
+        × (notes.new.items ≡ notes.old.items ++ line)) }
+{
+    match command {
+        Command::About {
+            question: Question::Users { .. },
+            ..
+        } => push_faulty(notes, alloc, seed, files, searched),
+        _ => Ok(()),
+    }
+}
+
+/// The notes beside the reply to a command over the files, what a search came to, and why the
+/// database is refused where users are told all the same.
 pub(crate) fn all_notes(
     alloc: Global,
     seed: Seed,
@@ -113,5 +184,6 @@ pub(crate) fn all_notes(
 {
     let mut notes = notes_beside(alloc, seed, files, command, &watched.reply.text)?;
     push_search_line(&mut notes, command, watched.searched)?;
+    push_refused(&mut notes, alloc, seed, files, command, watched.searched)?;
     Ok(notes)
 }

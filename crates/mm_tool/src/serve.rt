@@ -30,8 +30,9 @@ ghost use Rattle.clap.specs.Words.{Text};
 use crate::answer::Answer;
 use crate::files::{Comments, FileFault, ReadFile, read_file, read_files};
 use crate::folder::{Folder, Resources};
+use crate::hint::{keep_hint, tell_reason};
 use crate::progress_line::{ProgressLine, watched_reply};
-use crate::search_note::all_notes;
+use crate::search_note::{CHECK, all_notes};
 use crate::unread::{asked_label, labelled, tell_unread};
 use crate::versions::{Versions, compared_versions, read_versions};
 use mm_base::File;
@@ -46,12 +47,6 @@ use mm_words::{
 };
 use std::alloc::{AllocError, Global};
 use std::io::Write;
-
-/// The command as whose the files of two versions are read.
-const CHECK: Command<'static> = Command::Whole {
-    profile: Profile::Lenient,
-    question: WholeQuestion::Check,
-};
 
 const TOO_LONG: &[u8] = b"load F3\n";
 
@@ -180,6 +175,7 @@ pub(crate) fn run_over<'a, F: Folder, O: Write, P: Write>(
     let files = plain_files(alloc, &files)?;
     let watched = watched_reply(resources, command, &files, progress)?;
     let notes = all_notes(alloc, seed, &files, command, &watched)?;
+    keep_hint(progress, resources, command, &files, names, &watched.reply);
     noted_reply(out, &watched.reply, notes)
 }
 
@@ -481,9 +477,14 @@ pub(crate) fn serve<F: Folder, O: Write, E: Write, P: Write>(
     match answer(resources, folder, texts, words, out, progress) {
         Ok(answer) => {
             tell_notes(err, answer.notes());
+            progress.tell_hint();
             answer.status.number()
         }
-        Err(stop) => tell(&stop, err).number(),
+        Err(stop) => {
+            let status = tell(&stop, err);
+            tell_reason(folder, &stop, progress);
+            status.number()
+        }
     }
 }
 

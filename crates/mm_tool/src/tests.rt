@@ -3,6 +3,7 @@
 
 mod failing;
 mod folder;
+mod hint;
 mod progress_line;
 
 use crate::folder::Resources;

@@ -8,13 +8,13 @@ pub returns-in-Whole : goal.returns-in-Whole
 returns-in-Whole g c = rw c.in-Whole.is c.whole_reply.ensures
 
 pub returns-in-About : goal.returns-in-About
-returns-in-About g c = rw c.in-About.is c.checked_reply.ensures
+returns-in-About g c = rw c.in-About.is c.about_reply.ensures
 
 pub returns-in-File : goal.returns-in-File
 returns-in-File g c = rw c.in-File.is c.all_saved_reply.ensures
 
 pub returns-in-Shorter : goal.returns-in-Shorter
-returns-in-Shorter g c = rw c.in-Shorter.is c.checked_reply-in-Shorter.ensures
+returns-in-Shorter g c = rw c.in-Shorter.is c.checked_reply.ensures
 
 pub returns-in-Lemmas : goal.returns-in-Lemmas
 returns-in-Lemmas g c = rw c.in-Lemmas.is c.lemmas_reply.ensures
