@@ -188,6 +188,7 @@ other_question (question.Users all) files label text status other told = absurd 
 other_question (question.Axioms essential) files label text status other told = told
 other_question (question.Chain to) files label text status other told = told
 other_question question.Show files label text status other told = told
+other_question question.Letters files label text status other told = told
 other_question (question.Uses essential) files label text status other told = told
 other_question (question.Form form whole) files label text status other told = told
 other_question (question.Same proof) files label text status other told = told

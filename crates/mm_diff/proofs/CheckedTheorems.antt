@@ -14,7 +14,7 @@ use Rattle.mm_base.proofs.Lists.{at_from_contains, contains_from_at}
 use Rattle.mm_code.specs.Words.{tokens_in}
 use Rattle.mm_text.specs.Files.{PlainFile}
 use Rattle.mm_text.specs.Reading.{Reads}
-use Rattle.mm_frame.specs.Numbers.{IsLabelNumber, IsNumbered, labelled_sentences}
+use Rattle.mm_frame.specs.Numbers.{IsAssertionNumber, IsLabelNumber, IsNumbered, labelled_sentences}
 use Rattle.mm_frame.specs.Rules.{AllMeant}
 use Rattle.mm_frame.specs.Sentence.{Sentence, sentence_of, IsLabelled}
 use Rattle.mm_frame.proofs.Names.LabelNumbers.{numbered_get, numbered_some, numbered_unique}
@@ -29,7 +29,7 @@ use Rattle.mm_proof.specs.Tokens.{is_incomplete, SayMoves}
 use Rattle.mm_proof.proofs.ProofTokens.SaidMoves.{moves_once}
 use Rattle.mm_rules.specs.Answer.{IsKeptOf}
 use Rattle.mm_rules.specs.Conclusion.{Conclusion, ProofUses, numbers_of}
-use Rattle.mm_rules.specs.Rests.{AreInOrder, AreUses, HasTree, IsAt, IsNumberWhere}
+use Rattle.mm_rules.specs.Rests.{AreInOrder, AreUses, HasTree, IsAt, IsNumberWhere, tree_of}
 use Rattle.mm_rules.specs.Verdict.{is_proof, is_unproved, proof_of, sentences}
 use Rattle.mm_verdict.specs.Mirror.Theorems.{IsProofOf, SayStepsOf}
 use Rattle.mm_verdict.proofs.FileBytes.StatementsInFiles.{file_within, provable_proof}
@@ -42,9 +42,10 @@ use Rattle.mm_verdict.proofs.Verdicts.StatementByStatement.{all_meant}
 use Rattle.mm_diff.specs.declared.homes.Home.{Home}
 use Rattle.mm_diff.specs.Diff.{AreAlike, IsAssertionNamed, IsReproved, SpellTwoTrees}
 use Rattle.mm_diff.specs.Mirror.Databases.{IsAlikeNamed, IsComplete, IsTheorem, SayOwnSteps}
-use Rattle.mm_diff.specs.Mirror.Databases.{SpellOneTree, TellsOneProof, TellsReproved}
+use Rattle.mm_diff.specs.Mirror.Databases.{HaveSameText, SpellOneTree, TellsOneProof, TellsReproved}
 use Rattle.mm_diff.specs.Mirror.Homes.{home_of, words_outside, IsWithinFiles}
-use Rattle.mm_diff.specs.Mirror.Steps.{TellsOneTree}
+use Rattle.mm_diff.specs.Mirror.Steps.{KeepWidths, TellsOneTree}
+use Rattle.mm_diff.proofs.KeptWidths.{tokens_tree}
 use Rattle.mm_diff.proofs.DifferingNumbers.{named_by, not_true, one_name_of, one_number}
 use Rattle.mm_diff.proofs.DifferingNumbers.{opposite}
 use Rattle.mm_diff.proofs.ProofWords.{home_at, proof_within, proof_words}
@@ -102,6 +103,10 @@ module _ (st others : List Sentence) (label : List ℕ) (id : ℕ) where
   none_alike_here here lacks m (name, named, stands, alike) =
       lacks m (subst (λ (l : List ℕ). IsAssertionNamed others l m)
       (one_name_of st name label id named here) stands)
+
+-- a theorem is an assertion
+pub theorem_asserts : (st : List Sentence) (id : ℕ) → IsTheorem st id → IsAssertionNumber st id
+theorem_asserts st id (index, s, number) = (index, s, number.numbered, inr number.provable)
 
 -- an assertion that says the same as a theorem is one
 pub alike_theorem : (st others : List Sentence) (id n : ℕ) → IsTheorem st id
@@ -210,6 +215,22 @@ module _ (c : Conclusion) (homes : List Home) (id : ℕ) (well : KeptWell c)
   own_words bytes are =
       proof_words c.files well.origin.statements own_theorem.index own_theorem.s
       well.origin.accepted.reads own_theorem.at.there own_theorem.complete bytes are
+
+  pub own_tokens : (bytes : List ℕ)
+      → ((file : PlainFile) → slice_get c.files own_theorem.s.first.file ≡ Some file
+      → bytes ≡ slice_range file.bytes own_theorem.s.span.0 own_theorem.s.span.1)
+      → (statements : List PlainStatement) → Reads c.files statements None → (index : ℕ)
+      (s : PlainStatement) → IsAt statements id index s
+      → words_outside false (tokens_in bytes) ≡ proof_of s
+  own_tokens bytes are statements reads index s at =
+      let same : well.origin.statements ≡ statements =
+      (same_reading c.files well.origin.statements statements None None
+      well.origin.accepted.reads reads).0 in
+      let here : IsAt statements id own_theorem.index own_theorem.s =
+      subst (λ (ss : List PlainStatement). IsAt ss id own_theorem.index own_theorem.s) same
+      own_theorem.at in
+      own_words bytes are
+      ∙ ap proof_of (at_unique statements id own_theorem.index index own_theorem.s s here at).1
 
   -- which is a proof
   pub own_proof : IsProofOf c.profile c.sentences id (proof_of own_theorem.s)
@@ -362,6 +383,36 @@ module _ (c d : Conclusion) (one other : ℕ) (well : KeptWell c) (well_too : Ke
             told.1 (make_in_both (take i (sentences statements)) (take j (sentences others)) m.names
             n.names m.label n.label m.below n.below (sym m.is ∙ mine ∙ sym theirs ∙ n.is) m.made
             n.made)),
+      )
+
+  -- proofs of the same tokens spell one tree
+  pub text_told : KeepWidths c.sentences d.sentences → HaveSameText c d one other
+      → SpellOneTree statements others one other
+  text_told kept (names, text) =
+      let (i, t, has) = own_tree in
+      let (j, u, has_too) = other_tree in
+      let st : List Sentence = sentences statements in
+      let ss : List Sentence = sentences others in
+      let mine = map-take i statements in
+      let theirs = map-take j others in
+      let tokens : proof_of has.s ≡ proof_of has_too.s =
+      text statements others reads reads_too i has.s j has_too.s has.at has_too.at in
+      let same : tree_of has.proof ≡ tree_of has_too.proof =
+      tokens_tree st ss i j meant meant_too (rw (here.kept.sentences, there.kept.sentences) at kept)
+      (sentence_of has.s) (sentence_of has_too.s) (proof_of has_too.s) has.proof.moves
+      has_too.proof.moves (tree_of has.proof) (tree_of has_too.proof) has.proof.proves.kept
+      has_too.proof.proves.kept
+      (λ hs ks own own_too. (rw (here.kept.sentences, there.kept.sentences) at names) i
+      (sentence_of has.s) j (sentence_of has_too.s) hs ks has.at.numbered has_too.at.numbered own
+      own_too)
+      (rw (mine, tokens) at has.proof.said) (rw theirs at has_too.proof.said)
+      (rw mine at has.proof.proves.made) (rw theirs at has_too.proof.proves.made) in (
+        t,
+        i,
+        has,
+        j,
+        subst (λ (v : Trees). HasTree others other j v)
+            (has_too.spelled ∙ sym same ∙ sym has.spelled) has_too,
       )
 
   -- they are one tree, or two

@@ -1,6 +1,6 @@
--- Statements that say the same, and whose proofs spell the same trees, tell no change; and where they
--- do so beside those of two other databases, the same is told of both. On this file rests the law of
--- `laws`.
+-- Statements that say the same, and whose proofs spell the same trees, tell no change; and where
+-- they do so beside those of two other databases, the same is told of both. On this file rests the
+-- law of `laws`.
 use Rattle.std.proofs.Common.{◌≡◌, ℕ, List, [], ◌∷◌, take, refl, sym, ap, subst, ◌∙◌}
 use Rattle.mm_base.specs.Statement.{PlainStatement}
 use Rattle.mm_base.proofs.Lists.{contains_from_at}

@@ -6,6 +6,7 @@ pub mod DifferingNumbers
 pub mod WidthsInBoth
 pub mod TreesOfBoth
 pub mod SharedTrees
+pub mod KeptWidths
 pub mod ProofWords
 pub mod CheckedTheorems
 pub mod DiffLines

@@ -1,5 +1,5 @@
--- The words of a proof in the bytes of its file: those outside comments, where its span says. On this
--- file rest the contracts of `words` and `homes`.
+-- The words of a proof in the bytes of its file: those outside comments, where its span says. On
+-- this file rest the contracts of `words` and `homes`.
 use Rattle.std.proofs.Common.{◌≡◌, ℕ, ◌-◌, List, [], ◌∷◌, ◌++◌, map, take, drop}
 use Rattle.std.proofs.Common.{length, filter, slice_get, slice_range, Some, None, Option, is_some}
 use Rattle.std.proofs.Common.{Bool, true, false, cond, if◌then◌else◌, codes, refl, sym, ap, subst}

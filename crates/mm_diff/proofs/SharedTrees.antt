@@ -1,5 +1,5 @@
--- What is told of the trees of two proofs: by their steps, where they are written alike, and else by
--- the steps of their fully shared proofs. On this file rest the contracts of `trees`.
+-- What is told of the trees of two proofs: by their steps, where they are written alike, and else
+-- by the steps of their fully shared proofs. On this file rest the contracts of `trees`.
 use Rattle.std.proofs.Common.{◌≡◌, ◌↔◌, ℕ, zero, suc, ◌+◌, ◌-◌, List, [], ◌∷◌, ◌++◌, map, take}
 use Rattle.std.proofs.Common.{length, slice_get, Some, None, Bool, true, inl, inr, refl, sym, ap}
 use Rattle.std.proofs.Common.{subst, ◌∙◌, arith, get_or, ◌<◌}

@@ -1,6 +1,6 @@
--- Moves that make trees in two databases. The same moves make one tree where their labels stand over
--- as many trees in both; and of one tree the fully shared moves are the same in both. On this file
--- rest the contracts of `trees`.
+-- Moves that make trees in two databases. The same moves make one tree where their labels stand
+-- over as many trees in both; and of one tree the fully shared moves are the same in both. On this
+-- file rest the contracts of `trees`.
 use Rattle.std.proofs.Common.{◌≡◌, ℕ, List, [], ◌∷◌, take, Some, refl, sym, ap}
 use Rattle.std.proofs.Common.{subst, ◌∙◌, arith}
 use Rattle.std.specs.List.{AllByRecursion, AllZip}

@@ -1,5 +1,5 @@
--- Over how many trees labels stand, by their numbers. On this file rest the contracts of `moves`, and
--- what is said of the moves of two databases.
+-- Over how many trees labels stand, by their numbers. On this file rest the contracts of `moves`,
+-- and what is said of the moves of two databases.
 use Rattle.std.proofs.Common.{◌≡◌, ◌⊎◌, ℕ, List, length, take, slice_get, Some, inl, inr, refl, sym}
 use Rattle.std.proofs.Common.{ap, subst, ◌∙◌, ◌≤◌, arith, ◌↔◌, Bool, true, bytes_eq}
 use Rattle.std.proofs.lemmas.List.{take-take}

@@ -8,6 +8,7 @@ use crate::homes::{Home, bytes_at};
 use crate::words::proof_in;
 use mm_frame::LabelId;
 use mm_proof::StepsReader;
+use mm_rules::AskFault;
 use mm_verdict::{Checked, Theorem, read_theorem};
 use std::alloc::{AllocError, Global};
 
@@ -45,7 +46,8 @@ pub(crate) fn theorem_at(
         &statement,
     ) {
         Ok(theorem) => Ok(theorem),
-        // `check` accepted the proof, so memory alone can be wanting.
-        Err(_) => Err(AllocError),
+        Err(AskFault::Memory) => Err(AllocError),
+        // `check` accepted the proof.
+        Err(_) => unreachable!(),
     }
 }

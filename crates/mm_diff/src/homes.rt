@@ -8,6 +8,7 @@ ghost use Rattle.mm_diff.specs.Mirror.Homes.{HaveHomes, IsWithinFiles};
 ghost use Rattle.mm_diff.specs.Mirror.Homes.{home_of as home_behind};
 
 use mm_base::{File, Statement};
+use mm_rules::AskFault;
 use mm_text::Statements;
 use mm_verdict::Checked;
 use std::alloc::{AllocError, Global};
@@ -37,8 +38,9 @@ fn reader_of<'a>(alloc: Global, checked: &Checked<'a>) -> Result<Statements<'a>,
 {
     match checked.reader(alloc) {
         Ok(statements) => Ok(statements),
-        // Memory alone can be wanting.
-        Err(_) => Err(AllocError),
+        Err(AskFault::Memory) => Err(AllocError),
+        // Nothing but lack of memory keeps checked files from being read again.
+        Err(_) => unreachable!(),
     }
 }
 

@@ -2,8 +2,8 @@
 //! It answers `diff_reply`: the assertions that are gone, those that were added, those that say
 //! something else, and those whose proofs spell another tree, each with its label, and the sums.
 //! Both databases are checked first. It stands on `mm_forms`, on `mm_verdict`, and on `mm_axioms`
-//! for its lemmas on lists of numbers. Begin with `reply`, then `differences` and `alike`; of proofs
-//! with `reproved`, then `trees`. What is told is defined in `specs/Diff.antt`, the reply in
+//! for its lemmas on lists of numbers. Begin with `reply`, then `differences` and `alike`; of
+//! proofs with `reproved`, then `trees`. What is told is defined in `specs/Diff.antt`, the reply in
 //! `specs/Reply.antt`.
 #![tactic(auto)]
 
@@ -19,7 +19,9 @@ mod reply;
 mod reproved;
 mod text;
 mod trees;
+mod widths;
 mod words;
+mod written;
 
 pub use laws::no_change;
 pub use reply::diff_reply;

@@ -68,7 +68,7 @@ fn have_one_label(old: &Book, one: LabelId, new: &Book, other: LabelId) -> bool
 }
 
 /// Whether two numbers of labels are those of labels that stand over as many trees.
-fn have_one_width(old: &Book, one: LabelId, new: &Book, other: LabelId) -> bool
+pub(crate) fn have_one_width(old: &Book, one: LabelId, new: &Book, other: LabelId) -> bool
     requires one { IsLabelNumber old.now.statements one.0 }
     requires other { IsLabelNumber new.now.statements other.0 }
     ensures { IsTrue result ↔ HaveOneWidth old.now.statements new.now.statements one.0 other.0 }
@@ -77,7 +77,7 @@ fn have_one_width(old: &Book, one: LabelId, new: &Book, other: LabelId) -> bool
 }
 
 /// Whether two numbers are those of one label, which stands over as many trees in both books.
-fn is_same_step(old: &Book, one: LabelId, new: &Book, other: LabelId) -> bool
+pub(crate) fn is_same_step(old: &Book, one: LabelId, new: &Book, other: LabelId) -> bool
     ensures { IsTrue result ↔ IsSameStep old.now.statements new.now.statements one.0 other.0 }
 {
     if !old.is_label(one) {
@@ -137,7 +137,8 @@ fn say_one_move(
     )
 }
 
-/// Whether the codes of two proofs, whose first numbers stand for these entries, say the same moves.
+/// Whether the codes of two proofs, whose first numbers stand for these entries, say the same
+/// moves.
 pub(crate) fn say_same_moves(
     old: &Book,
     entries: &[LabelId],

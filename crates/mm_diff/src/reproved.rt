@@ -4,12 +4,15 @@ ghost use Rattle.std.specs.Prelude.{◌≡◌, ◌↔◌, ℕ, map, None, IfOk, 
 ghost use Rattle.mm_frame.specs.Numbers.{IsLabelNumber};
 ghost use Rattle.mm_diff.specs.Mirror.Databases.{AreReproved, IsAlikeNamed, IsComplete, IsTheorem};
 ghost use Rattle.mm_diff.specs.Mirror.Databases.{TellsOneProof, TellsReproved};
+ghost use Rattle.mm_diff.specs.Mirror.Steps.{KeepWidths};
 
 use crate::alike::are_alike;
 use crate::database::theorem_at;
 use crate::differences::assertion_named;
 use crate::homes::Home;
 use crate::trees::make_one_tree;
+use crate::widths::keep_widths;
+use crate::written::have_same_text;
 use mm_frame::{Book, LabelId, LabelKind};
 use mm_verdict::Checked;
 use std::alloc::{AllocError, Global};
@@ -86,10 +89,13 @@ fn is_reproved(
     id: LabelId,
     other_checked: &Checked,
     other_homes: &[Home],
+    keeps_widths: bool,
 ) -> Result<bool, AllocError>
     requires complete { IsComplete checked.now homes.now }
     requires label { IsLabelNumber checked.now.sentences id.0 }
     requires other_complete { IsComplete other_checked.now other_homes.now }
+    requires widths { IsTrue keeps_widths
+        → KeepWidths checked.now.sentences other_checked.now.sentences }
     ensures { IfOk result (TellsReproved checked.now other_checked.now id.0) }
 {
     if !is_theorem(&checked.book, id) {
@@ -97,6 +103,11 @@ fn is_reproved(
     }
     match alike_named(&checked.book, id, &other_checked.book) {
         Some(named) => {
+            if keeps_widths {
+                if have_same_text(checked, homes, id, other_checked, other_homes, named) {
+                    return Ok(false);
+                }
+            }
             let same = spell_one_tree(
                 alloc,
                 id,
@@ -112,8 +123,8 @@ fn is_reproved(
     }
 }
 
-/// The numbers of the theorems whose proofs spell another tree than those of the theorems of another
-/// database that have their labels and say the same, in their order.
+/// The numbers of the theorems whose proofs spell another tree than those of the theorems of
+/// another database that have their labels and say the same, in their order.
 pub(crate) fn those_reproved(
     alloc: Global,
     checked: &Checked,
@@ -126,13 +137,22 @@ pub(crate) fn those_reproved(
     ensures { IfOk result (λ ids. AreReproved checked.now other_checked.now
         (map (λ l. l.0) ids.items)) }
 {
+    let keeps_widths = keep_widths(&checked.book, &other_checked.book);
     let mut those = Vec::new(alloc);
     for number in 0..u32::MAX {
         let id = LabelId(number);
         if !checked.book.is_label(id) {
             break;
         }
-        if is_reproved(alloc, checked, homes, id, other_checked, other_homes)? {
+        if is_reproved(
+            alloc,
+            checked,
+            homes,
+            id,
+            other_checked,
+            other_homes,
+            keeps_widths,
+        )? {
             those.push(id)?;
         }
     }

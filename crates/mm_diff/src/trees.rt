@@ -74,8 +74,8 @@ fn are_alike_steps(old: &Book, steps: &Steps, new: &Book, other_steps: &Steps) -
     )
 }
 
-/// Whether the steps of two `$p` of two books make one tree. Labels are compared by their names, and
-/// each subtree once, however often it stands in the tree.
+/// Whether the steps of two `$p` of two books make one tree. Labels are compared by their names,
+/// and each subtree once, however often it stands in the tree.
 pub(crate) fn make_one_tree(
     alloc: Global,
     old: &Book,

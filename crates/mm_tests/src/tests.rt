@@ -301,6 +301,11 @@ fn explained_faults_in_order(rt: HostRuntime) -> Result<(), Fail> {
 }
 
 #[test]
+fn explained_faults_with_unused_labels(rt: HostRuntime) -> Result<(), Fail> {
+    compare_commands(&rt, rt.alloc(), &why::UNUSED)
+}
+
+#[test]
 fn explained_faults_with_hypotheses(rt: HostRuntime) -> Result<(), Fail> {
     compare_commands(&rt, rt.alloc(), &why_hypotheses::HYPOTHESES)
 }

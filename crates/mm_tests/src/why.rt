@@ -8,7 +8,7 @@ use mm_core_tests::databases::FIRST;
 use mm_step::Profile::{Lenient, Strict};
 
 /// Databases with several faults, with one, and with none.
-pub(crate) const EXPLAINED: [(Command<'static>, Case); 15] = [
+pub(crate) const EXPLAINED: [(Command<'static>, Case); 14] = [
     (
         Whole {
             profile: Lenient,
@@ -448,75 +448,6 @@ f.mm:8:11: P2: no earlier statement has the label, in the proof of t
             status: 4,
         },
     ),
-    (
-        Whole {
-            profile: Lenient,
-            question: WholeQuestion::Why,
-        },
-        Case {
-            name: "listed labels that no step is by, but of an unknown step and of a whole proof",
-            files: &[(
-                b"f.mm",
-                &[
-                    Text(b"$c a b $. one $a a $. two $a b $. three $a b $.\n"),
-                    Text(b"four $a b $. five $a b $.\np1 $p b $= ( one two ) A $.\n"),
-                    Text(b"p2 $p b $= ( five one two three\n  four ) B $.\n"),
-                    Text(b"p3 $p b $= ( one two ) ZA? $.\np4 $p b $= ( one two ) AV $.\n"),
-                    Text(b"p5 $p b $= one $.\n${ h $e a $.\n  p6 $p b $= ( one h two ) A $.\n"),
-                    Text(b"  p7 $p b $= ( one two ) B $. $}\np8 $p b $= ( one ) A $.\n"),
-                ],
-            )],
-            reply: b"f.mm:3:26: P14: the proof proves something else than is stated, in the proof of p1, at step 2
-  it states
-    b
-  but step 1, one at 3:24, gives
-    a
-  they differ at symbol 1: a where b is asked
-  no step is by: two
-f.mm:5:12: P14: the proof proves something else than is stated, in the proof of p2, at step 2
-  it states
-    b
-  but step 1, one at 5:10, gives
-    a
-  they differ at symbol 1: a where b is asked
-  no step is by: five two three, and 1 more
-f.mm:6:24: P7: a Z comes before any step, in the proof of p3, at step 1
-f.mm:7:25: P5: a number in the letters isn't ended, in the proof of p4
-f.mm:8:16: P14: the proof proves something else than is stated, in the proof of p5, at step 2
-  it states
-    b
-  but step 1, one at 8:12, gives
-    a
-  they differ at symbol 1: a where b is asked
-f.mm:10:30: P14: the proof proves something else than is stated, in the proof of p6, at step 2
-  it states
-    b
-  but step 1, h at 10:28, gives
-    a
-  they differ at symbol 1: a where b is asked
-  the theorem's hypotheses
-    f.mm:9:4 h
-  no step is by: one two
-f.mm:11:28: P14: the proof proves something else than is stated, in the proof of p7, at step 2
-  it states
-    b
-  but step 1, one at 11:26, gives
-    a
-  they differ at symbol 1: a where b is asked
-  the theorem's hypotheses
-    f.mm:9:4 h
-  no step is by: two
-f.mm:12:22: P14: the proof proves something else than is stated, in the proof of p8, at step 2
-  it states
-    b
-  but step 1, one at 12:20, gives
-    a
-  they differ at symbol 1: a where b is asked
-8 faults
-",
-            status: 1,
-        },
-    ),
 ];
 
 /// The order in which pairs are told, and the line on what isn't explained under the strict profile.
@@ -624,3 +555,74 @@ and 1 more, which mm faults --strict lists
         },
     ),
 ];
+
+/// A database in whose proofs no step is by some listed labels.
+pub(crate) const UNUSED: [(Command<'static>, Case); 1] = [(
+    Whole {
+        profile: Lenient,
+        question: WholeQuestion::Why,
+    },
+    Case {
+        name: "listed labels that no step is by, but of an unknown step and of a whole proof",
+        files: &[(
+            b"f.mm",
+            &[
+                Text(b"$c a b $. one $a a $. two $a b $. three $a b $.\n"),
+                Text(b"four $a b $. five $a b $.\np1 $p b $= ( one two ) A $.\n"),
+                Text(b"p2 $p b $= ( five one two three\n  four ) B $.\n"),
+                Text(b"p3 $p b $= ( one two ) ZA? $.\np4 $p b $= ( one two ) AV $.\n"),
+                Text(b"p5 $p b $= one $.\n${ h $e a $.\n  p6 $p b $= ( one h two ) A $.\n"),
+                Text(b"  p7 $p b $= ( one two ) B $. $}\np8 $p b $= ( one ) A $.\n"),
+            ],
+        )],
+        reply: b"f.mm:3:26: P14: the proof proves something else than is stated, in the proof of p1, at step 2
+  it states
+    b
+  but step 1, one at 3:24, gives
+    a
+  they differ at symbol 1: a where b is asked
+  no step is by: two
+f.mm:5:12: P14: the proof proves something else than is stated, in the proof of p2, at step 2
+  it states
+    b
+  but step 1, one at 5:10, gives
+    a
+  they differ at symbol 1: a where b is asked
+  no step is by: five two three, and 1 more
+f.mm:6:24: P7: a Z comes before any step, in the proof of p3, at step 1
+f.mm:7:25: P5: a number in the letters isn't ended, in the proof of p4
+f.mm:8:16: P14: the proof proves something else than is stated, in the proof of p5, at step 2
+  it states
+    b
+  but step 1, one at 8:12, gives
+    a
+  they differ at symbol 1: a where b is asked
+f.mm:10:30: P14: the proof proves something else than is stated, in the proof of p6, at step 2
+  it states
+    b
+  but step 1, h at 10:28, gives
+    a
+  they differ at symbol 1: a where b is asked
+  the theorem's hypotheses
+    f.mm:9:4 h
+  no step is by: one two
+f.mm:11:28: P14: the proof proves something else than is stated, in the proof of p7, at step 2
+  it states
+    b
+  but step 1, one at 11:26, gives
+    a
+  they differ at symbol 1: a where b is asked
+  the theorem's hypotheses
+    f.mm:9:4 h
+  no step is by: two
+f.mm:12:22: P14: the proof proves something else than is stated, in the proof of p8, at step 2
+  it states
+    b
+  but step 1, one at 12:20, gives
+    a
+  they differ at symbol 1: a where b is asked
+8 faults
+",
+        status: 1,
+    },
+)];

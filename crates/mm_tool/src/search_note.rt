@@ -1,10 +1,16 @@
 //! The line on what a search came to, and all notes beside a reply.
 
-ghost use Rattle.std.specs.Prelude.{◌≡◌, ◌++◌, map, IfOk, OnOk};
+ghost use Rattle.std.specs.Prelude.{◌≡◌, ◌↔◌, ◌++◌, map, IfOk, IsTrue, OnOk, Some};
 ghost use Rattle.mm_text.specs.Files.{plain_file};
 ghost use Rattle.std.specs.Prelude.{List, ℕ};
 ghost use Rattle.mm_tool.specs.Ending.{AreAllNotes, IsFaultyNote, IsRefusedNote};
+ghost use Rattle.mm_check.specs.Reply.{IsReplyTo};
+ghost use Rattle.mm_minimize.specs.declared.search_watch.Searched.TheVariants.{Faulty};
+ghost use Rattle.mm_step.specs.declared.profile.Profile.TheVariants.{Lenient};
+ghost use Rattle.mm_verdict.specs.declared.question.Command.TheVariants.{Whole};
+ghost use Rattle.mm_verdict.specs.declared.question.WholeQuestion.TheVariants.{Check};
 ghost use Rattle.mm_tool.specs.Notes.{change_text, incomplete_note, left_note, many_left_note};
+ghost use Rattle.mm_tool.specs.Notes.{refused_note};
 ghost use Rattle.mm_tool.specs.Notes.{search_line, searched_line};
 
 use crate::label_note::notes_beside;
@@ -125,8 +131,38 @@ fn push_search_line(
     }
 }
 
-/// Where proofs are at fault, appends the line that says why the database is refused. This is asked
-/// anew, as it is seldom so.
+/// Whether proofs are at fault.
+fn is_faulty(searched: Option<Searched>) -> bool
+    ensures { IsTrue result ↔ (searched ≡ Some Faulty) }
+{
+    matches!(searched, Some(Searched::Faulty))
+}
+
+/// Appends the line that tells this refusal of the database.
+fn push_refusal_line(notes: &mut Vec<u8>, refusal: &[u8]) -> Result<(), AllocError>
+    ensures { OnOk result (notes.new.items ≡ notes.old.items ++ refused_note refusal.now) }
+{
+    notes.extend_from_slice(b"mm: note: the database is refused: ")?;
+    notes.extend_from_slice(refusal)
+}
+
+/// Appends the line that says why the database is refused. This is asked anew, as it is seldom so.
+fn push_refusal(
+    notes: &mut Vec<u8>,
+    alloc: Global,
+    seed: Seed,
+    files: &[File],
+) -> Result<(), AllocError>
+    ensures { OnOk result ((text : List ℕ) × (status : ℕ)
+        × IsReplyTo (map plain_file files.now) (Whole Lenient Check) text status
+        × (notes.new.items ≡ notes.old.items ++ refused_note text)) }
+{
+    let reply = reply_to(alloc, seed, &CHECK, files, &mut Unwatched)?;
+    push_refusal_line(notes, &reply.text)?;
+    Ok(())
+}
+
+/// Appends this line, where proofs are at fault.
 fn push_faulty(
     notes: &mut Vec<u8>,
     alloc: Global,
@@ -138,13 +174,10 @@ fn push_faulty(
         × IsFaultyNote (map plain_file files.now) searched line
         × (notes.new.items ≡ notes.old.items ++ line)) }
 {
-    match searched {
-        Some(Searched::Faulty) => {
-            let reply = reply_to(alloc, seed, &CHECK, files, &mut Unwatched)?;
-            notes.extend_from_slice(b"mm: note: the database is refused: ")?;
-            notes.extend_from_slice(&reply.text)
-        }
-        _ => Ok(()),
+    if is_faulty(searched) {
+        push_refusal(notes, alloc, seed, files)
+    } else {
+        Ok(())
     }
 }
 

@@ -1,5 +1,5 @@
--- A checked database, and what is told of the proofs of two. This file mirrors the code, and is cited
--- by private contracts alone.
+-- A checked database, and what is told of the proofs of two. This file mirrors the code, and is
+-- cited by private contracts alone.
 use Rattle.std.specs.Prelude.{◌≡◌, ◌↔◌, ℕ, List, [], None, Bool, IsTrue}
 use Rattle.mm_base.specs.Statement.{PlainStatement}
 use Rattle.mm_frame.specs.Sentence.{Sentence}
@@ -14,6 +14,7 @@ use Rattle.mm_verdict.specs.Mirror.Theorems.{SayStepsOf}
 use Rattle.mm_diff.specs.declared.homes.Home.{Home}
 use Rattle.mm_diff.specs.Diff.{AreAlike, AreChanges, IsAssertionNamed, IsReproved, TellsChanges}
 use Rattle.mm_diff.specs.Mirror.Homes.{HaveHomes}
+use Rattle.mm_diff.specs.Mirror.Steps.{NameTheSame}
 
 -- the database has no incomplete proof, and these are the homes of its statements
 pub record IsComplete (c : Conclusion) (own : List Home) : Type 0 where
@@ -36,6 +37,14 @@ SayOwnSteps c id steps =
     (statements : List PlainStatement) → Reads c.files statements None → (index : ℕ)
     (s : PlainStatement) → IsAt statements id index s
     → SayStepsOf (sentences statements) id (proof_of s) steps
+
+-- the proofs of two theorems have the same tokens, and their mandatory hypotheses the same labels
+abbrev pub HaveSameText : (c d : Conclusion) → (one other : ℕ) → Type 0
+HaveSameText c d one other =
+    NameTheSame c.sentences d.sentences one other
+    × ((statements others : List PlainStatement) → Reads c.files statements None
+    → Reads d.files others None → (i : ℕ) (s : PlainStatement) (j : ℕ) (t : PlainStatement)
+    → IsAt statements one i s → IsAt others other j t → proof_of s ≡ proof_of t)
 
 -- the complete proofs of theorems of two databases spell one tree
 abbrev pub SpellOneTree : (statements others : List PlainStatement) → (one other : ℕ) → Type 0

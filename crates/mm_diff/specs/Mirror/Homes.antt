@@ -1,5 +1,5 @@
--- Where the proofs of checked files stand, and the words in their bytes. This file mirrors the code,
--- and is cited by private contracts alone.
+-- Where the proofs of checked files stand, and the words in their bytes. This file mirrors the
+-- code, and is cited by private contracts alone.
 use Rattle.std.specs.Prelude.{◌≡◌, ◌≤◌, ℕ, List, [], ◌∷◌, map, filter, length, slice_get, Some}
 use Rattle.std.specs.Prelude.{None, Bool, true, false, if◌then◌else◌, is_some, codes}
 use Rattle.mm_base.specs.Spelling.{spells}

@@ -1,5 +1,5 @@
--- What checking a database comes to, as the reply to `mm diff` keeps it. This file mirrors the code,
--- and is cited by private contracts alone.
+-- What checking a database comes to, as the reply to `mm diff` keeps it. This file mirrors the
+-- code, and is cited by private contracts alone.
 use Rattle.std.specs.Prelude.{◌≡◌, List}
 use Rattle.mm_base.specs.Statement.{PlainStatement}
 use Rattle.mm_text.specs.Files.{PlainFile}

@@ -1,10 +1,10 @@
 -- Steps of proofs of two books, compared by the names of their labels. This file mirrors the code,
 -- and is cited by private contracts alone.
-use Rattle.std.specs.Prelude.{◌≡◌, ◌⊎◌, ◌↔◌, ℕ, List, length, take, Bool, IsTrue}
+use Rattle.std.specs.Prelude.{◌≡◌, ◌⊎◌, ◌↔◌, ℕ, List, length, map, take, Bool, IsTrue}
 use Rattle.std.specs.List.{AllZip}
 use Rattle.mm_frame.specs.declared.number.LabelId.{LabelId}
 use Rattle.mm_frame.specs.Frame.{AreMandatory}
-use Rattle.mm_frame.specs.Numbers.{IsNumbered}
+use Rattle.mm_frame.specs.Numbers.{IsLabelNumber, IsNumbered}
 use Rattle.mm_frame.specs.Sentence.{Sentence, IsAssertion, IsHypothesis}
 use Rattle.mm_step.specs.Moves.{Move, name, again, mark}
 use Rattle.mm_step.specs.Steps.{AreNumberedMoves, IsProofNumber}
@@ -50,6 +50,26 @@ HaveOneWidth old new one other = (width : ℕ) × HasWidth old one width × HasW
 -- both
 abbrev pub IsSameStep : (old new : List Sentence) → (one other : ℕ) → Type 0
 IsSameStep old new one other = HaveOneLabel old new one other × HaveOneWidth old new one other
+
+-- the label with a number stands over as many trees in the other database, if it is one there
+abbrev pub KeepsWidth : (statements others : List Sentence) → (id : ℕ) → Type 0
+KeepsWidth statements others id =
+    (n : ℕ) (label : List ℕ) → IsNumberOfLabel statements id label
+    → IsNumberOfLabel others n label → HaveOneWidth statements others id n
+
+-- each label does
+abbrev pub KeepWidths : (statements others : List Sentence) → Type 0
+KeepWidths statements others =
+    (id : ℕ) → IsLabelNumber statements id → KeepsWidth statements others id
+
+-- the mandatory hypotheses of two assertions have the same labels
+abbrev pub NameTheSame : (statements others : List Sentence) → (one other : ℕ) → Type 0
+NameTheSame statements others one other =
+    (i : ℕ) (s : Sentence) (j : ℕ) (t : Sentence) (hypotheses other_hypotheses : List Sentence)
+    → IsNumbered statements one i s → IsNumbered others other j t
+    → AreMandatory (take i statements) s hypotheses
+    → AreMandatory (take j others) t other_hypotheses
+    → map (λ h. h.label) hypotheses ≡ map (λ h. h.label) other_hypotheses
 
 -- the moves are one, by the names of labels
 abbrev pub IsSameMove : (old new : List Sentence) → Move ℕ → Move ℕ → Type 0

@@ -13,6 +13,14 @@ use Rattle.mm_diff.proofs.reproved.those_reproved.Goals.{then-branch+in_ok-push,
 use Rattle.mm_diff.proofs.reproved.those_reproved.Goals.{else-loop-number-test}
 use Rattle.mm_diff.proofs.reproved.those_reproved.Goals.{then-loop-number-test+then-not-is_label}
 
+pub is_reproved-requires-clause-widths : goal.is_reproved-requires-clause-widths
+is_reproved-requires-clause-widths c = λ t.
+    rw (
+      ap (λ (v : Conclusion). v.sentences) c.checked.view_is,
+      ap (λ (v : Conclusion). v.sentences) c.other_checked.view_is,
+    ) at
+    (c.keep_widths-keeps_widths.ensures t)
+
 pub loop-number-preserved : goal.loop-number-preserved
 loop-number-preserved c = λ statements others reads reads_too.
     let P : ℕ → Type 0 = λ n. IsReproved statements others n in
