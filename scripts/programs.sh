@@ -7,7 +7,7 @@
 proved=$top/crates/mm_tool/out/mm
 plain=$top/.plain/mm
 launcher=${launcher-$top/mm}
-proof_takes='some forty minutes on four cores, and up to 6 GB of memory'
+proof_takes='about an hour on four cores, and up to 6 GB of memory'
 
 # The crates of the program, lowest first: mm_tool and what it stands on.
 crates() {
