@@ -1,6 +1,7 @@
 //! Both stores, and the verdicts on proofs of small databases with either.
 
 mod asked;
+mod choices;
 mod forms;
 mod growths;
 mod halts;

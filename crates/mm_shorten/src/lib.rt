@@ -36,8 +36,6 @@ mod shorten;
 mod step_table;
 mod symbols;
 mod syntax;
-#[cfg(test)]
-mod tests;
 mod trie;
 mod walk;
 

@@ -1,6 +1,7 @@
 //! Patterns of expressions, all in one trie.
 
-use crate::trie::{ROOT, Trie, next_number};
+use crate::step_table::ROOT;
+use crate::trie::{Trie, next_number};
 use mm_base::Seed;
 use mm_frame::{Hypothesis, Piece, Sym};
 use std::alloc::{AllocError, Global};

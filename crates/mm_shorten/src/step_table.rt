@@ -1,9 +1,11 @@
 //! A hash table of steps of a trie, with open addressing.
 
-use crate::trie::ROOT;
 use mm_base::Seed;
 use std::alloc::{AllocError, Global};
 use std::hash::{BuildHasher, Hasher};
+
+/// The node of a trie at which each expression begins. No step leads to it.
+pub(crate) const ROOT: u32 = 0;
 
 /// A step of a trie: from a node by a symbol to another node, which isn't the root.
 #[derive(Clone, Copy)]

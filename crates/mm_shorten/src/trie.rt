@@ -1,12 +1,9 @@
 //! Tries over symbols.
 
-use crate::step_table::{Step, StepTable};
+use crate::step_table::{ROOT, Step, StepTable};
 use mm_base::Seed;
 use mm_frame::Sym;
 use std::alloc::{AllocError, Global};
-
-/// The node of a trie at which each expression begins. No step leads to it.
-pub(crate) const ROOT: u32 = 0;
 
 // The first step from a node, and a filter for the symbols of the others.
 #[derive(Clone, Copy)]

@@ -7,7 +7,7 @@ use crate::matches::Matches;
 use crate::patterns::Patterns;
 use crate::room::has_room;
 use crate::syntax::{Span, Spans};
-use crate::trie::ROOT;
+use crate::step_table::ROOT;
 use mm_frame::Sym;
 use std::alloc::{AllocError, Global};
 

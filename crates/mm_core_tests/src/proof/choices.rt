@@ -1,13 +1,10 @@
 //! Choices in small graphs, whose symbols and labels are numbers.
 
-use crate::budget::Budget;
-use crate::choose::{Aim, choose_text};
-use crate::expressions::Expressions;
-use crate::goals::{Goal, goals_of};
-use crate::graph::{Edge, Graph, Origin};
-use crate::price::{BYTE, step_price};
 use mm_base::Seed;
 use mm_frame::{Book, Hypothesis, LabelId, Part, Sym};
+use mm_shorten::{
+    Aim, BYTE, Budget, Edge, Goal, Graph, Origin, choose_text, goals_of, step_price,
+};
 use std::alloc::{AllocError, Global};
 use std::test::Fail;
 
@@ -83,21 +80,6 @@ fn text_of(
         most_steps: 6,
     };
     choose_text(alloc, &book, &own, graph, aim, budget)
-}
-
-#[test]
-fn an_expression_has_one_number(rt: HostRuntime) -> Result<(), Fail> {
-    let mut expressions = Expressions::new(rt.alloc(), Seed::known());
-    assert!(rt; expressions.is_empty());
-    assert_eq!(rt; expressions.number(&[Sym(7), Sym(1)])?, 0);
-    assert_eq!(rt; expressions.number(&[Sym(7)])?, 1);
-    assert_eq!(rt; expressions.number(&[Sym(7), Sym(1)])?, 0);
-    assert_eq!(rt; expressions.len(), 2);
-    assert_eq!(rt; expressions.find(&[Sym(7)]), Some(1u32));
-    assert!(rt; expressions.find(&[Sym(1)]).is_none());
-    assert_eq!(rt; expressions.get(0), [Sym(7), Sym(1)].as_slice());
-    assert!(rt; expressions.get(2).is_empty());
-    Ok(())
 }
 
 #[test]

@@ -1,4 +1,0 @@
-//! What no contract says: which edges are found, and which proof is chosen.
-
-mod choices;
-mod searches;
