@@ -14,9 +14,10 @@ mod search_watch;
 mod shortening;
 mod shorter_file;
 mod shorter_list;
+mod sizes;
 
 pub use minimize::{minimized, minimized_by_library, minimized_file, minimized_list};
 pub use search::{OwnSize, Search};
 pub use search_watch::{SearchWatch, Searched};
 pub use shorter_file::Wanted;
-pub use shorter_list::Sizes;
+pub use sizes::Sizes;

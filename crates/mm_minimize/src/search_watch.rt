@@ -1,6 +1,6 @@
 //! What a search came to, and which proofs users were sought among, told beside the reply.
 
-use crate::shorter_list::Sizes;
+use crate::sizes::Sizes;
 use mm_verdict::{Unwatched, Watch};
 
 /// What a search for shorter proofs, for lemmas or for users came to.

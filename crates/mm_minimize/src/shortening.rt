@@ -25,7 +25,7 @@ use crate::library_search::LibrarySearch;
 use crate::remarks::{Remark, may_use, remarks_of};
 use crate::search::{OwnSize, Search};
 use crate::search_watch::Searched;
-use crate::shorter_list::Sizes;
+use crate::sizes::Sizes;
 use mm_axioms::{Tables, is_founded, tables};
 use mm_frame::{Book, LabelId, Sym};
 use mm_render::{Handed, OwnProof, handed_proof, own_proof};

@@ -1,12 +1,12 @@
 //! The proofs that a search makes shorter, as lines.
 
-ghost use Rattle.std.specs.Prelude.{◌≡◌, ◌+◌, ◌++◌, ◌<◌, ◌^◌, List, [], length, map, min};
+ghost use Rattle.std.specs.Prelude.{◌≡◌, ◌+◌, ◌++◌, ◌<◌, ◌^◌, List, [], length, map};
 ghost use Rattle.std.specs.Prelude.{◌-◌, None, IfOk, IfErr, IfSome, MatchOption, OnOk};
 ghost use Rattle.std.specs.List.{AllByRecursion};
 ghost use Rattle.mm_base.specs.Statement.{PlainStatement, plain_statement, HasForm};
 ghost use Rattle.mm_text.specs.Reading.{Reads};
 ghost use Rattle.mm_rules.specs.declared.ask.AskFault.TheVariants.{Memory};
-ghost use Rattle.mm_minimize.specs.AllShorter.{AreShorterLines, ShorterLine, most_sum, shorter_text};
+ghost use Rattle.mm_minimize.specs.AllShorter.{AreShorterLines, ShorterLine, shorter_text};
 ghost use Rattle.mm_minimize.specs.AllShorter.{mark_text, shorter_line_text, sizes_text, sums_text};
 ghost use Rattle.mm_rules.specs.Answer.{KeepsLabels};
 ghost use Rattle.mm_minimize.specs.Mirror.AllShortening.{AddsSizes, AreSums, IsAllListed, PutsLine};
@@ -18,23 +18,14 @@ ghost use Rattle.mm_minimize.specs.Mirror.Shortening.{KnowsDatabase};
 use crate::proof_pair::{Compared, shorter_proof};
 use crate::search::Search;
 use crate::shortening::Shortening;
+use crate::sizes::Sizes;
 use mm_axioms::push_marked;
 use mm_base::Statement;
 use mm_frame::LabelId;
-use mm_render::OwnProof;
 use mm_rules::{AskFault, push_decimal, push_number};
 use mm_save::label_of;
 use mm_verdict::{Checked, Rereading, Watch};
 use std::alloc::{AllocError, Global};
-
-/// The sizes of proofs, of one or of several.
-#[derive(Clone, Copy)]
-pub struct Sizes {
-    /// How many bytes their small texts have.
-    pub bytes: usize,
-    /// How many steps they have where they are fully shared.
-    pub steps: usize,
-}
 
 /// How many proofs become shorter, and by how much.
 #[derive(Clone, Copy)]
@@ -49,30 +40,6 @@ pub(crate) struct Sums {
 pub struct Listing {
     text: Vec<u8>,
     sums: Sums,
-}
-
-impl Sizes {
-    /// The sizes of a proof.
-    pub(crate) fn of(proof: &OwnProof) -> Sizes
-        ensures bytes { result.bytes ≡ length proof.now.text.items }
-        ensures steps { result.steps ≡ proof.now.steps }
-    {
-        Sizes {
-            bytes: proof.text.len(),
-            steps: proof.steps,
-        }
-    }
-
-    /// The sum of both.
-    fn plus(self, other: Sizes) -> Sizes
-        ensures bytes { result.bytes ≡ min most_sum (self.bytes + other.bytes) }
-        ensures steps { result.steps ≡ min most_sum (self.steps + other.steps) }
-    {
-        Sizes {
-            bytes: self.bytes.saturating_add(other.bytes),
-            steps: self.steps.saturating_add(other.steps),
-        }
-    }
 }
 
 impl Sums {

@@ -16,7 +16,7 @@ use Rattle.mm_frame.specs.Numbers.{labelled_sentences}
 use Rattle.mm_frame.specs.Sentence.{Sentence, sentence_of, IsLabelled}
 use Rattle.mm_minimize.specs.declared.proof_pair.Compared.{Compared}
 use Rattle.mm_minimize.specs.declared.shorter_list.Listing.{Listing}
-use Rattle.mm_minimize.specs.declared.shorter_list.Sizes.{Sizes}
+use Rattle.mm_minimize.specs.declared.sizes.Sizes.{Sizes}
 use Rattle.mm_minimize.specs.declared.shorter_list.Sums.{Sums}
 use Rattle.mm_minimize.specs.AllShorter.{AreShorterLines, ProofSize, ShorterLine, most_sum}
 use Rattle.mm_minimize.specs.AllShorter.{shorter_line_text, shorter_lines_text, shorter_text, sum_of}

@@ -10,7 +10,7 @@ use Rattle.mm_step.specs.Steps.{AreSteps}
 use Rattle.mm_render.specs.declared.forms.OwnProof.{OwnProof}
 use Rattle.mm_minimize.specs.declared.proof_pair.Compared.{Compared}
 use Rattle.mm_minimize.specs.declared.shorter_list.Listing.{Listing}
-use Rattle.mm_minimize.specs.declared.shorter_list.Sizes.{Sizes}
+use Rattle.mm_minimize.specs.declared.sizes.Sizes.{Sizes}
 use Rattle.mm_minimize.specs.declared.shorter_list.Sums.{Sums}
 use Rattle.mm_save.specs.declared.save_all.NewFile.{NewFile}
 use Rattle.mm_minimize.specs.declared.shortening.Shorter.{Shorter}

@@ -20,7 +20,7 @@ use Rattle.mm_minimize.specs.declared.remarks.Remark.{Remark}
 use Rattle.mm_minimize.specs.declared.search_watch.Searched.{Searched}
 use Rattle.mm_minimize.specs.declared.search_watch.Searched.TheVariants.{NoneShorter}
 use Rattle.mm_minimize.specs.declared.search_watch.Searched.TheVariants as of_search
-use Rattle.mm_minimize.specs.declared.shorter_list.Sizes.{Sizes}
+use Rattle.mm_minimize.specs.declared.sizes.Sizes.{Sizes}
 use Rattle.mm_minimize.specs.declared.shortening.Shorter.{Shorter}
 use Rattle.mm_minimize.specs.declared.shortening.Shortening.{Shortening}
 use Rattle.mm_render.specs.declared.shorter.Handed.{Handed}
