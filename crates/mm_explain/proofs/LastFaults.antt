@@ -23,14 +23,12 @@ use Rattle.mm_verdict.specs.Faults.{AreRefused, HaveFaults}
 use Rattle.mm_verdict.specs.Why.{is_of_proofs}
 use Rattle.mm_rules.specs.declared.rule.Rule.TheVariants as rules
 use Rattle.mm_facts.specs.Explained.{Detail, token_at_fault, detail_text, details_text}
-use Rattle.mm_explain.specs.Near.{IsLabelOf}
 use Rattle.mm_rules.specs.Places.{bytes_of}
 use Rattle.mm_explain.specs.TextFacts.{AreBegun, AreOrigins, AreTextFacts, blocks_closed}
 use Rattle.mm_explain.specs.TextFacts.{blocks_opened, closing_tokens, missing_facts}
 use Rattle.mm_facts.proofs.LackingDetails.{both_told}
 use Rattle.mm_explain.specs.TextFacts.{files_up_to, last_of, places_begun, token_from, unclosed_in}
 use Rattle.mm_explain.specs.Mirror.Last.{EndsRun, IsBegin, IsOpenBlock, TellsOrigins}
-use Rattle.mm_facts.proofs.NearLabels.{name_kept}
 use Rattle.mm_explain.proofs.InnermostBlocks.{opened_there}
 use Rattle.mm_verdict.proofs.Verdicts.FaultLists.{meant_more}
 
@@ -278,27 +276,3 @@ text_told files refusal statements fault reads refused bytes token start first_o
       },
       both_told (fact ∷ missed) told.details [] middle out both told.put,
     )
-
--- ==== the search for a label
-
-module _ (passed : List PlainStatement) (s : PlainStatement) where
-  label_kept : (label : List ℕ) → IsLabelOf passed label → IsLabelOf (passed ++ s ∷ []) label
-  label_kept label (t, (index, there, named)) =
-      (t, (index, get_kept passed (s ∷ []) index t there, named))
-
-  -- a statement without a label is passed over
-  pub searched_past : (found : Option (Bor (List ℕ)))
-      → IfSome found (λ near. IsLabelOf passed near.now)
-      → IfSome found (λ near. IsLabelOf (passed ++ s ∷ []) near.now)
-  searched_past None before = before
-  searched_past (Some near) before = label_kept near.now before
-
-  -- the label of another is offered
-  pub searched_on : (label : Bor (List ℕ)) (found after : Option (Bor (List ℕ)))
-      → IfSome found (λ near. IsLabelOf passed near.now)
-      → option_map (λ (t : PlainToken). t.text) s.label ≡ Some label.now
-      → (after ≡ found) ⊎ (after ≡ Some label)
-      → IfSome after (λ near. IsLabelOf (passed ++ s ∷ []) near.now)
-  searched_on label found after before is kept =
-      name_kept (IsLabelOf (passed ++ s ∷ [])) label found after (searched_past found before)
-      (s, (length passed, get_pushed passed s, is)) kept

@@ -15,7 +15,7 @@ use Rattle.mm_frame.proofs.Rules.ObeyedRules.{one_label}
 use Rattle.mm_step.specs.Moves.{Move, name, again, mark}
 use Rattle.mm_step.specs.Steps.{IsNumberedMove, AreNumberedMoves}
 use Rattle.mm_step.proofs.ByNumbers.NumberedSymbols.{same_told}
-use Rattle.mm_proof.specs.Tokens.{IsCompressed, SayMoves, is_incomplete, opening_token}
+use Rattle.mm_proof.specs.Tokens.{IsCompressed, SayMoves, is_incomplete}
 use Rattle.mm_proof.proofs.ProofTokens.SaidMoves.{normal_or_compressed, compressed_once}
 use Rattle.mm_rules.specs.Shown.{symbols_text}
 use Rattle.mm_facts.specs.Explained.{judged_tokens}
@@ -192,13 +192,6 @@ unused_told out o₁ o₂ o₃ o₄ xs shown more some least left h₁ h₂ h₃
     ∙ ap (λ t. out ++ t) (sym (unused_line (texts xs) (λ e. some (sym many ∙ e))))
 
 -- ---- the tokens of a proof
-
--- their list, and their letters
-pub listed_there : (tokens rest listed letters : List (List ℕ)) → tokens ≡ opening_token ∷ rest
-    → IsCompressed (opening_token ∷ rest) listed letters
-    → (those : List (List ℕ)) × IsCompressed tokens listed those
-listed_there tokens rest listed letters begun parts =
-    (letters, subst (λ (ts : List (List ℕ)). IsCompressed ts listed letters) (sym begun) parts)
 
 -- the labels of the list of complete tokens are told where no move is a step by them
 pub unused_of_list : (before : List Sentence) (s : Sentence) (tokens listed letters : List (List ℕ))

@@ -4,6 +4,7 @@
 pub mod Reached
 pub mod Reasons
 pub mod Standing
+pub mod Offered
 pub mod SemanticErrors
 pub mod Stated
 pub mod Last

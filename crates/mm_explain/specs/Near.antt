@@ -1,16 +1,20 @@
--- Labels of the statements of files, also where a fault ends them.
-use Rattle.std.specs.Prelude.{ℕ, List, Option}
+-- Labels of the statements of files that are near to another, also where a fault ends the files.
+use Rattle.std.specs.Prelude.{◌≡◌, ℕ, List, [], Option}
 use Rattle.mm_base.specs.Statement.{PlainStatement}
-use Rattle.mm_text.specs.Files.{PlainFile}
+use Rattle.mm_text.specs.declared.fault.LoadRule.{LoadRule}
+use Rattle.mm_text.specs.Files.{BreaksLoad, PlainFile}
 use Rattle.mm_text.specs.Reading.{PlainFault, Reads}
-use Rattle.mm_rules.specs.Shown.{Stands}
+use Rattle.mm_rules.specs.Verdict.{CanBeRead, labels_of}
+use Rattle.mm_facts.specs.Near.{AreNearest}
 
--- one of the statements has this label
-abbrev pub IsLabelOf : List PlainStatement → (label : List ℕ) → Type 0
-IsLabelOf statements label = (s : PlainStatement) × Stands statements label s
-
--- one of the statements that the files hold has it
-abbrev pub IsLabelIn : List PlainFile → (label : List ℕ) → Type 0
-IsLabelIn files label =
+-- these are the nearest of the labels of the statements that the files hold
+abbrev pub AreNearestOf : List PlainFile → (label : List ℕ) → (told : List (List ℕ)) → Type 0
+AreNearestOf files label told =
     (statements : List PlainStatement) × (ending : Option PlainFault)
-    × Reads files statements ending × IsLabelOf statements label
+    × Reads files statements ending × AreNearest label [] (labels_of statements) told
+
+-- These are they; and none of files that can't be taken as a whole.
+pub record AreNearestIn (files : List PlainFile) (label : List ℕ) (told : List (List ℕ))
+    : Type 0 where
+  pub whole : CanBeRead files → AreNearestOf files label told
+  pub broken : (rule : LoadRule) → BreaksLoad files rule → told ≡ []

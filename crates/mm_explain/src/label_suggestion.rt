@@ -1,8 +1,12 @@
-//! Suggests the label of an earlier statement for an unknown one.
+//! Suggests the labels of earlier statements for an unknown one.
 
-ghost use Rattle.std.specs.Prelude.{◌≡◌, List, None, map, IfOk, IfSome, OnOk};
+ghost use Rattle.std.specs.Prelude.{◌≡◌, [], List, map, IfOk, OnOk};
+ghost use Rattle.mm_code.specs.Layout.{texts};
 ghost use Rattle.mm_text.specs.Files.{plain_file};
-ghost use Rattle.mm_explain.specs.Near.{IsLabelIn, IsLabelOf};
+ghost use Rattle.mm_rules.specs.Verdict.{labels_of};
+ghost use Rattle.mm_facts.specs.Near.{AreNearestBelow};
+ghost use Rattle.mm_explain.specs.Near.{AreNearestIn};
+ghost use Rattle.mm_explain.specs.Mirror.Offered.{HasOffered};
 
 use mm_base::{File, Seed, Statement};
 use mm_facts::Nearest;
@@ -18,8 +22,7 @@ struct Offers<'w, 'a> {
 }
 
 impl<'w, 'a> Passing<'a> for Offers<'w, 'a> {
-    ghost has_passed = { λ first now passed. first.nearest.found ≡ None
-        → IfSome now.nearest.found (λ near. IsLabelOf passed near.now) };
+    ghost has_passed = { λ first now passed. HasOffered first.nearest now.nearest passed };
 
     fn pass(&mut self, statement: &Statement<'a>) -> Result<(), AllocError> {
         match &statement.label {
@@ -29,26 +32,27 @@ impl<'w, 'a> Passing<'a> for Offers<'w, 'a> {
     }
 }
 
-/// The label of a statement of the files that is nearest to this one, which no statement has: it
-/// differs in at most two changes, and in one if the label has fewer than four bytes. None is near a
-/// label of more than 100 bytes. The files are read to their end, or to the first fault of the
-/// text.
-pub fn nearest_label<'a>(
+/// The labels of statements of the files that are nearest to this one, which no statement has: those
+/// with the same letters in another case, or else those that differ in the fewest changes. These are
+/// two at most, or one if the label has fewer than four bytes; none is near to a label of more than
+/// 100 bytes. Of those that are equally near the first three are answered. The files are read to
+/// their end, or to the first fault of the text; where they break a rule as a whole, there are none.
+pub fn nearest_labels<'a>(
     alloc: Global,
     seed: Seed,
     files: &'a [File<'a>],
     label: &[u8],
-) -> Result<Option<&'a [u8]>, AllocError>
-    ensures { IfOk result (λ found. IfSome found
-        (λ near. IsLabelIn (map plain_file files.now) near.now)) }
+) -> Result<Vec<&'a [u8]>, AllocError>
+    ensures { IfOk result (λ found.
+        AreNearestIn (map plain_file files.now) label.now (texts found.items)) }
 {
     let mut statements = match load(alloc, seed, files) {
         Ok(statements) => statements,
         Err(CheckFault::Memory) => return Err(AllocError),
         // Nothing is read of files that can't be taken as a whole.
-        Err(CheckFault::Load(_) | CheckFault::Refused(_)) => return Ok(None),
+        Err(CheckFault::Load(_) | CheckFault::Refused(_)) => return Ok(Vec::new(alloc)),
     };
-    let nearest = Nearest::new(alloc, label);
+    let nearest = Nearest::new(alloc, label, &[]);
     let mut offers = Offers { nearest };
     pass_next(alloc, &mut statements, usize::MAX, &mut offers)?;
     Ok(offers.nearest.found)

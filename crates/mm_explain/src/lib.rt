@@ -21,7 +21,7 @@ mod trial;
 mod unused;
 mod why;
 
-pub use label_suggestion::nearest_label;
+pub use label_suggestion::nearest_labels;
 pub use read_to::{Reached, Unreached};
 pub use statement_at::{Stated, read_statement};
 pub use trial::{judged_steps, try_reply};

@@ -1,14 +1,14 @@
 //! Labels of a compressed proof's list that no step is by.
 
 ghost use Rattle.std.specs.Prelude.{◌≡◌, ◌++◌, ◌||◌, ℕ, List, nat_eq, take};
-ghost use Rattle.std.specs.Prelude.{IfOk, OnOk, MatchOption};
+ghost use Rattle.std.specs.Prelude.{IfOk, OnOk};
 ghost use Rattle.std.specs.Str.{bytes_eq};
 ghost use Rattle.indexmap.specs.IndexSet.{contains};
 ghost use Rattle.mm_code.specs.Layout.{texts};
 ghost use Rattle.mm_frame.specs.Sentence.{Sentence};
 ghost use Rattle.mm_proof.specs.Mirror.CodeSteps.{code_move, moves_of};
 ghost use Rattle.mm_proof.specs.Parsed.{OfProof};
-ghost use Rattle.mm_proof.specs.Tokens.{IsCompressed, SayMoves, is_incomplete};
+ghost use Rattle.mm_proof.specs.Tokens.{SayMoves, is_incomplete};
 ghost use Rattle.mm_rules.specs.Shown.{symbols_text};
 ghost use Rattle.mm_step.specs.Moves.{Move};
 ghost use Rattle.mm_step.specs.Plain.{ids_in, token_texts};
@@ -24,9 +24,9 @@ ghost use Rattle.mm_explain.specs.Unused.{unused_text, more_unused};
 use indexmap::IndexSet;
 use mm_base::{Seed, Token};
 use mm_code::Code;
-use mm_facts::Cause;
+use mm_facts::{Cause, listed_labels};
 use mm_frame::{Book, Found, LabelId};
-use mm_proof::{Steps, begins_list, parts};
+use mm_proof::Steps;
 use mm_rules::{push_decimal, push_word};
 use std::alloc::{AllocError, Global};
 
@@ -140,24 +140,6 @@ fn push_unused_line(out: &mut Vec<u8>, unused: &[&[u8]]) -> Result<(), AllocErro
     push_more_unused(out, unused.len().saturating_sub(MOST_UNUSED))?;
     out.push(b'\n')?;
     Ok(())
-}
-
-/// The labels of the list, if the tokens are those of a compressed proof.
-fn listed_labels<'t, 'a>(tokens: &'t [Token<'a>]) -> Option<&'t [Token<'a>]>
-    ensures { MatchOption
-        result
-        ((labels letters : List (List ℕ))
-        → ¬ (IsCompressed (token_texts tokens.now) labels letters))
-        (λ listed. (letters : List (List ℕ))
-        × IsCompressed (token_texts tokens.now) (token_texts listed.now) letters) }
-{
-    match tokens {
-        [_, rest @ ..] if begins_list(tokens) => match parts(rest) {
-            Some((listed, _)) => Some(listed),
-            None => None,
-        },
-        _ => None,
-    }
 }
 
 /// Tells the labels of the list that no step is by, where moves stop that the tokens say.

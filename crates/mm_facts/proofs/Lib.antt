@@ -12,5 +12,6 @@ pub mod Scripts
 pub mod FirstChanges
 pub mod Offers
 pub mod NearLabels
+pub mod ListedLabels
 pub mod OrderedPairs
 pub mod LetteredLines

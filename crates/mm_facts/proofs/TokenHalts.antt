@@ -2,6 +2,8 @@
 use Rattle.std.proofs.Common.{◌≡◌, ◌≢◌, ℕ, ◌+◌, List, [], ◌∷◌, ◌++◌, take, Bool, true, false, Option, Some, None}
 use Rattle.std.proofs.Common.{refl, ap, sym, subst, ◌∙◌, append-nil, inl, inr}
 use Rattle.std.specs.Prelude.{if◌then◌else◌}
+use Rattle.std.specs.Global.{Vec}
+use Rattle.mm_code.specs.Layout.{texts}
 use Rattle.mm_frame.specs.Sentence.{Sentence}
 use Rattle.mm_frame.specs.Rules.{AllMeant}
 use Rattle.mm_frame.specs.Form.{AllFormed}
@@ -24,7 +26,7 @@ use Rattle.mm_listing.specs.Halted.{HaltsProof}
 use Rattle.mm_proof.specs.ReadSteps.{ReadSteps}
 use Rattle.mm_step.specs.Steps.{IsProofNumber}
 use Rattle.mm_proof.specs.Verified.{OfMoves}
-use Rattle.mm_facts.specs.Explained.{IsTokensFault, judged_tokens, TokensHalt}
+use Rattle.mm_facts.specs.Explained.{IsTokensFault, judged_tokens, TokensHalt, AreListed}
 use Rattle.mm_facts.specs.Mirror.Explaining.{AreJudgedSteps, Causes, IsCauseOf, IsHaltOf}
 use Rattle.mm_facts.specs.Mirror.Explaining.{StopsIn}
 use Rattle.mm_facts.specs.declared.details.Cause.{Cause}
@@ -275,10 +277,12 @@ tokens_halt profile st before s tokens halt rule is f = record {
 -- a byte of a token: it is at no step
 pub token_caused : {profile : Profile} {st : List Sentence} {id : ℕ} {tokens : List (List ℕ)}
     {rule : ProofRule} {step : ℕ} {it : Cause} {token byte : ℕ} {text : Bor (List ℕ)}
-    → it ≡ cause.Token token byte text → IsCauseOf profile st id tokens rule step it
+    {listed : Vec (Bor (List ℕ))}
+    → it ≡ cause.Token token byte text listed → IsCauseOf profile st id tokens rule step it
     → (step ≡ 0) × OfProof st id
     (λ index s. IsWholePlace (take index st) s (judged_tokens tokens) rule token byte)
     × (slice_get tokens token ≡ Some text.now) × (byte ≤ length text.now)
+    × AreListed tokens (texts listed.items)
 token_caused {profile} {st} {id} {tokens} {rule} {step} {it} is r =
     subst (Causes profile st id tokens rule step) is r.causes
 

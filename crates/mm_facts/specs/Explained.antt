@@ -11,6 +11,8 @@ use Rattle.mm_base.specs.Token.{PlainToken}
 use Rattle.mm_text.specs.Files.{PlainFile}
 use Rattle.mm_code.specs.Words.{texts_of}
 use Rattle.mm_frame.specs.Sentence.{Sentence, Types}
+use Rattle.mm_frame.specs.Numbers.{labelled_sentences}
+use Rattle.mm_frame.specs.Frame.{AreThose}
 use Rattle.mm_step.specs.declared.fault.ProofRule.{ProofRule}
 use Rattle.mm_step.specs.declared.fault.ProofRule.TheVariants.{P2, P3, P4, P8, P9, P10}
 use Rattle.mm_step.specs.declared.fault.ProofRule.TheVariants.{P11, P12, P14, P15, L1}
@@ -18,7 +20,7 @@ use Rattle.mm_step.specs.declared.profile.Profile.{Profile}
 use Rattle.mm_step.specs.Substitution.{Symbol, Expression, Substitution}
 use Rattle.mm_step.specs.Tree.{Names}
 use Rattle.mm_step.specs.Moves.{Move, name, again, mark, steps_in}
-use Rattle.mm_proof.specs.Tokens.{is_incomplete, SayMoves}
+use Rattle.mm_proof.specs.Tokens.{is_incomplete, IsCompressed, SayMoves}
 use Rattle.mm_step.specs.Proof.{IsWithin, MeetsHypotheses}
 use Rattle.mm_step.specs.Steps.{IsUsable}
 use Rattle.mm_proof.specs.CheckedPrefix.{checked_prefix}
@@ -31,6 +33,7 @@ use Rattle.mm_places.specs.WholePlaces.{IsWholePlace}
 use Rattle.mm_proof.specs.UnderProfile.{IsFaultUnder, IsPrefixFaultUnder}
 use Rattle.mm_rules.specs.Shown.{symbols_text}
 use Rattle.mm_rules.specs.Explained.{AreMandatoryPairs}
+use Rattle.mm_facts.specs.Near.{AreNearest, joined}
 use Rattle.mm_facts.specs.StepTexts.{IsStepText}
 
 -- a fact about a fault
@@ -39,8 +42,8 @@ pub data Detail : Type 0 where
   token_at_fault : (text : List ℕ) → Detail
   -- what is missing before that token
   missing_before : (what : List ℕ) → Detail
-  -- the label of an earlier statement, to which that token is near
-  near_label : (label : List ℕ) → Detail
+  -- the labels of earlier statements, to which that token is near
+  near_labels : (labels : List (List ℕ)) → Detail
   -- the label of the step
   step_label : (label : List ℕ) → Detail
   -- the step repeats what the mark with a number, from 1 on, keeps, or a later one if its number is
@@ -293,25 +296,45 @@ AreWholeDetails limit before moves rule details = details ≡ []
 abbrev pub is_parenthesis : List ℕ → Bool
 is_parenthesis text = bytes_eq text (codes "(") || bytes_eq text (codes ")")
 
--- These are no facts, or the label of an earlier statement that the proof may name instead of the
--- token: that of an assertion, or of an active hypothesis.
-abbrev pub AreNearDetails : (before : List Sentence) → (text : List ℕ) → List Detail → Type 0
-AreNearDetails before text details =
-    (details ≡ [])
-    ⊎ ((label : List ℕ) × IsUsable before label × (is_parenthesis text ≡ false)
-    × (details ≡ near_label label ∷ []))
+-- the labels of the list of a compressed proof; none of a normal one
+abbrev pub AreListed : (tokens listed : List (List ℕ)) → Type 0
+AreListed tokens listed =
+    ((letters : List (List ℕ)) × IsCompressed tokens listed letters)
+    ⊎ (((labels letters : List (List ℕ)) → ¬ (IsCompressed tokens labels letters))
+    × (listed ≡ []))
 
--- The facts of a token at which the rule over the whole of a proof is broken. For P2 they may tell
--- of a label that the proof may name.
-abbrev pub AreTokenDetails : (before : List Sentence) → ProofRule → (text : List ℕ) → List Detail
-    → Type 0
-AreTokenDetails before P2 text details =
-    (near : List Detail) × AreNearDetails before text near
+-- the labels of the labelled statements, in their order
+abbrev pub labels_in : List Sentence → List (List ℕ)
+labels_in statements = map (λ s. unwrap_or s.label []) (labelled_sentences statements)
+
+-- These are the labels that are near to the token, of those that the proof may name instead: labels
+-- of assertions and of active hypotheses. Those of its list are none of them.
+abbrev pub AreNearLabels : (before : List Sentence) → (listed : List (List ℕ)) → (text : List ℕ)
+    → (labels : List (List ℕ)) → Type 0
+AreNearLabels before listed text labels =
+    (usable : List (List ℕ)) × AreThose (λ index label. IsUsable before label) 0 (labels_in before) usable
+    × AreNearest text listed usable labels
+
+-- They are told, if there are such; of a parenthesis none.
+abbrev pub AreNearDetails : (before : List Sentence) → (listed : List (List ℕ)) → (text : List ℕ)
+    → List Detail → Type 0
+AreNearDetails before listed text details =
+    ((is_parenthesis text ≡ true) × (details ≡ []))
+    ⊎ ((is_parenthesis text ≡ false) × (labels : List (List ℕ))
+    × AreNearLabels before listed text labels
+    × (details ≡ told_of labels (near_labels labels ∷ [])))
+
+-- The facts of a token at which the rule over the whole of a proof is broken, whose list has these
+-- labels. For P2 they tell of labels that the proof may name.
+abbrev pub AreTokenDetails : (before : List Sentence) → (listed : List (List ℕ)) → ProofRule
+    → (text : List ℕ) → List Detail → Type 0
+AreTokenDetails before listed P2 text details =
+    (near : List Detail) × AreNearDetails before listed text near
     × (details ≡ token_at_fault text ∷ near)
-AreTokenDetails before P3 text details = details ≡ token_at_fault text ∷ []
-AreTokenDetails before P4 text details = details ≡ token_at_fault text ∷ []
-AreTokenDetails before P15 text details = details ≡ token_at_fault text ∷ []
-AreTokenDetails before rule text details = details ≡ []
+AreTokenDetails before listed P3 text details = details ≡ token_at_fault text ∷ []
+AreTokenDetails before listed P4 text details = details ≡ token_at_fault text ∷ []
+AreTokenDetails before listed P15 text details = details ≡ token_at_fault text ∷ []
+AreTokenDetails before listed rule text details = details ≡ []
 
 -- The facts that explain this fault of the tokens, which stand in the files, in order: those of the
 -- token where a rule over the whole of the proof is broken; else those of the place where the moves
@@ -321,7 +344,9 @@ abbrev pub AreDetails : List PlainFile → Profile → (before : List Sentence) 
 AreDetails files profile before s tokens rule step details =
     ((step ≡ 0) × (token : ℕ) × (byte : ℕ) × (text : List ℕ)
     × IsWholePlace before s (judged_tokens (texts_of tokens)) rule token byte
-    × (slice_get (texts_of tokens) token ≡ Some text) × AreTokenDetails before rule text details)
+    × (slice_get (texts_of tokens) token ≡ Some text)
+    × (listed : List (List ℕ)) × AreListed (texts_of tokens) listed
+    × AreTokenDetails before listed rule text details)
     ⊎ ((h : TokensHalt profile before s (texts_of tokens) (Some rule))
     × (step ≡ steps_in h.halts.earlier + 1)
     × (steps : List (List ℕ)) × AllZip (IsStepText files tokens h.moves) h.halts.origins steps
@@ -406,7 +431,7 @@ replacements_text x y e f false false =
 abbrev pub detail_text : Detail → List ℕ
 detail_text (token_at_fault text) = codes "  token: " ++ text ++ codes "\n"
 detail_text (missing_before what) = codes "  missing before it: " ++ what ++ codes "\n"
-detail_text (near_label label) = codes "  near: " ++ label ++ codes "\n"
+detail_text (near_labels labels) = codes "  near: " ++ joined labels ++ codes "\n"
 detail_text (step_label label) = codes "  step: " ++ label ++ codes "\n"
 detail_text (mark_asked wanted there) =
     codes "  it repeats Z number " ++ mark_text wanted ++ codes ", and there are " ++ decimal there

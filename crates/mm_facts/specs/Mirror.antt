@@ -4,3 +4,4 @@
 pub mod Explaining
 pub mod FirstChanges
 pub mod Lettered
+pub mod NearSoFar

@@ -1,11 +1,12 @@
 //! The facts that a report on a faulty proof has, and their order.
 
 ghost use Rattle.std.specs.Prelude.{◌≡◌, ◌≤◌, ◌+◌, ◌++◌, ℕ, List, length, map, take, slice_get};
-ghost use Rattle.std.specs.Prelude.{OnOk, IfOk, IfSome, IsTrue, Some, true, ◌⊎◌};
+ghost use Rattle.std.specs.Prelude.{OnOk, IfOk, IsTrue, Some, true, ◌⊎◌, ◌↔◌};
 ghost use Rattle.std.specs.List.{sum_by};
 ghost use Rattle.mm_base.specs.MostBytes.{most_bytes};
 ghost use Rattle.mm_base.specs.Token.{plain_token, PlainToken};
 ghost use Rattle.mm_text.specs.Files.{plain_file, PlainFile};
+ghost use Rattle.mm_code.specs.Layout.{texts};
 ghost use Rattle.mm_code.specs.Words.{texts_of};
 ghost use Rattle.mm_frame.specs.Sentence.{Sentence, IsAssertion, IsHypothesis};
 ghost use Rattle.mm_frame.specs.Active.{IsActive};
@@ -21,7 +22,7 @@ ghost use Rattle.mm_proof.specs.Parsed.{OfProof, SaySteps};
 ghost use Rattle.mm_proof.specs.ReadSteps.{ReadSteps};
 ghost use Rattle.mm_proof.specs.Verified.{OfMoves};
 ghost use Rattle.mm_step.specs.Substitution.{Symbol};
-ghost use Rattle.mm_step.specs.Steps.{IsProofNumber, AreSteps, IsNumberedMove, IsUsable};
+ghost use Rattle.mm_step.specs.Steps.{IsProofNumber, AreSteps, IsNumberedMove};
 ghost use Rattle.mm_proof.specs.Tokens.{is_incomplete};
 ghost use Rattle.mm_step.specs.Profiles.{limit_of};
 ghost use Rattle.mm_proof.specs.Strict.{HasFormOf, IsTextFault};
@@ -30,7 +31,7 @@ ghost use Rattle.mm_facts.specs.Explained.{Detail, IsTokensFault, AreDetails, Ar
 ghost use Rattle.mm_facts.specs.Explained.{details_text, judged_tokens, hypotheses_stated};
 ghost use Rattle.mm_facts.specs.Explained.{entries_given, AreEndDetails, AreStepDetails};
 ghost use Rattle.mm_facts.specs.Explained.{AreMoveDetails, AreHaltDetails, AreTokenDetails};
-ghost use Rattle.mm_facts.specs.Explained.{AreWholeDetails, pairs_lacking};
+ghost use Rattle.mm_facts.specs.Explained.{AreWholeDetails, pairs_lacking, AreNearLabels};
 ghost use Rattle.mm_facts.specs.Mirror.Explaining.{IsHaltOf, AddsAtHalt, StepFacts, LabelFacts};
 ghost use Rattle.mm_facts.specs.Mirror.Explaining.{AreJudgedSteps, IsJudgedWhole, AskedFacts};
 ghost use Rattle.mm_facts.specs.Mirror.Explaining.{TypeFacts, TurnFacts, TellsSteps};
@@ -42,6 +43,7 @@ use crate::fact_lines::{
     push_asks_where, push_counts, push_end, push_given, push_marks, push_missing, push_most,
     push_near, push_stated, push_step, push_token, push_type_asked, push_types,
 };
+use crate::listed::listed_texts;
 use crate::named_halt::NamedHalt;
 use crate::step_texts::named_halt;
 use crate::suggestion::Nearest;
@@ -426,11 +428,12 @@ fn steps_of(
 /// The cause of the fault of a proof.
 #[derive(Drop)]
 pub enum Cause<'t> {
-    /// A rule over the whole of the proof is broken at a byte of a token.
+    /// A rule over the whole of the proof is broken at a byte of a token. Its list has these labels.
     Token {
         index: usize,
         byte: usize,
         text: &'t [u8],
+        listed: Vec<&'t [u8]>,
     },
     /// The moves of the judged tokens, and where they stop.
     Moves {
@@ -464,10 +467,12 @@ pub fn cause_of<'t>(
     let _own = book.frame(id);
     if fault.1 == 0 {
         let (index, byte) = whole_place(alloc, book, id, tokens, fault.0)?;
+        let listed = listed_texts(alloc, tokens)?;
         return Ok(Cause::Token {
             index,
             byte,
             text: tokens[index].text,
+            listed,
         });
     }
     let steps = steps_of(alloc, profile, book, id, tokens)?;
@@ -479,8 +484,8 @@ pub fn cause_of<'t>(
 fn is_usable(book: &Book, own: &Frame, id: LabelId) -> bool
     requires { own.now.statements ≡ book.now.statements }
     ensures { (index : ℕ) (s : Sentence) → IsNumbered book.now.statements id.0 index s
-        → IsTrue result
-        → IsAssertion s.kind ⊎ (IsHypothesis s.kind × IsActive (before_it own.now) index) }
+        → (IsTrue result
+        ↔ (IsAssertion s.kind ⊎ (IsHypothesis s.kind × IsActive (before_it own.now) index))) }
 {
     match book.kind(id) {
         LabelKind::Floating => own.active(id),
@@ -489,24 +494,26 @@ fn is_usable(book: &Book, own: &Frame, id: LabelId) -> bool
     }
 }
 
-/// The label that is nearest to the wanted one, of those that the proof of the `$p` with the number
-/// may name, if one is near.
-fn near_label<'a>(
+/// The labels that are nearest to the wanted one, of those that the proof of the `$p` with the
+/// number may name and that its list has not.
+fn near_labels<'a>(
     alloc: Global,
     book: &Book<'a>,
     id: LabelId,
+    listed: &[&[u8]],
     wanted: &[u8],
-) -> Result<Option<&'a [u8]>, AllocError>
+) -> Result<Vec<&'a [u8]>, AllocError>
     requires { (index : ℕ) × (s : Sentence) × IsProofNumber book.now.statements id.0 index s }
-    ensures { IfOk result (λ found. IfSome found (λ label.
-        OfProof book.now.statements id.0 (λ index s.
-        IsUsable (take index book.now.statements) label.now))) }
+    ensures { IfOk result (λ found. OfProof book.now.statements id.0 (λ index s.
+        AreNearLabels (take index book.now.statements) (texts listed.now) wanted.now
+        (texts found.items))) }
 {
     let own = book.frame(id);
-    let mut nearest = Nearest::new(alloc, wanted);
+    let mut nearest = Nearest::new(alloc, wanted, listed);
     for number in 0..id.0 {
+        let label = book.label(LabelId(number));
         if is_usable(book, &own, LabelId(number)) {
-            nearest.offer(book.label(LabelId(number)))?;
+            nearest.offer(label)?;
         }
     }
     Ok(nearest.found)
@@ -519,27 +526,26 @@ fn is_parenthesis(text: &[u8]) -> bool
     text == b"(".as_slice() || text == b")".as_slice()
 }
 
-/// A label that no statement before the `$p` with the number has, and one that is near.
+/// A label that no statement before the `$p` with the number has, and those that are near.
 fn push_unknown_label(
     out: &mut Vec<u8>,
     alloc: Global,
     book: &Book,
     id: LabelId,
+    listed: &[&[u8]],
     label: &[u8],
 ) -> Result<(), AllocError>
     requires { (index : ℕ) × (s : Sentence) × IsProofNumber book.now.statements id.0 index s }
     ensures { OnOk result (OfProof book.now.statements id.0 (λ index s. (details : List Detail)
-        × AreTokenDetails (take index book.now.statements) P2 label.now details
+        × AreTokenDetails (take index book.now.statements) (texts listed.now) P2 label.now details
         × (out.new.items ≡ out.old.items ++ details_text details))) }
 {
     push_token(out, label)?;
     if is_parenthesis(label) {
         return Ok(());
     }
-    match near_label(alloc, book, id, label)? {
-        Some(near) => push_near(out, near),
-        None => Ok(()),
-    }
+    let near = near_labels(alloc, book, id, listed, label)?;
+    push_near(out, &near)
 }
 
 /// What is told of a token at which a rule over the whole of a proof is broken.
@@ -549,15 +555,16 @@ fn push_at_token(
     book: &Book,
     id: LabelId,
     rule: ProofRule,
+    listed: &[&[u8]],
     text: &[u8],
 ) -> Result<(), AllocError>
     requires { (index : ℕ) × (s : Sentence) × IsProofNumber book.now.statements id.0 index s }
     ensures { OnOk result (OfProof book.now.statements id.0 (λ index s. (details : List Detail)
-        × AreTokenDetails (take index book.now.statements) rule text.now details
+        × AreTokenDetails (take index book.now.statements) (texts listed.now) rule text.now details
         × (out.new.items ≡ out.old.items ++ details_text details))) }
 {
     match rule {
-        ProofRule::P2 => push_unknown_label(out, alloc, book, id, text),
+        ProofRule::P2 => push_unknown_label(out, alloc, book, id, listed, text),
         ProofRule::P3 => push_token(out, text),
         ProofRule::P4 => push_token(out, text),
         ProofRule::P15 => push_token(out, text),
@@ -586,7 +593,9 @@ pub fn push_cause(
         × (out.new.items ≡ out.old.items ++ details_text details))) }
 {
     match cause {
-        Cause::Token { text, .. } => push_at_token(out, alloc, book, id, rule, text),
+        Cause::Token { text, listed, .. } => {
+            push_at_token(out, alloc, book, id, rule, listed, text)
+        }
         Cause::Moves { steps, stop } => {
             push_halt(out, alloc, book, id, profile, stop, rule)?;
             push_whole(out, alloc, book, id, steps, rule)

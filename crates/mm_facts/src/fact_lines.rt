@@ -2,7 +2,8 @@
 
 ghost use Rattle.std.specs.Prelude.{◌≡◌, ◌≢◌, ◌<◌, ◌++◌, ◌+◌, ◌^◌, ℕ, length, decimal, OnOk, codes};
 ghost use Rattle.std.specs.Prelude.{Some, None, IfSome, List, slice_get, map, filter, ◌∷◌, []};
-ghost use Rattle.std.specs.List.{AllByRecursion};
+ghost use Rattle.std.specs.List.{AllByRecursion, flat_map};
+ghost use Rattle.mm_code.specs.Layout.{texts};
 ghost use Rattle.mm_text.specs.Files.{plain_file};
 ghost use Rattle.mm_base.specs.Token.{plain_token};
 ghost use Rattle.mm_frame.specs.Numbers.{symbols_of};
@@ -14,7 +15,9 @@ ghost use Rattle.mm_facts.specs.Explained.{replacement_text, replacements_text, 
 ghost use Rattle.mm_facts.specs.Explained.{token_at_fault, step_label, mark_asked, entry_counts};
 ghost use Rattle.mm_facts.specs.Explained.{hypothesis_stated, entry_given, hypothesis_asks};
 ghost use Rattle.mm_facts.specs.Explained.{most_symbols, missing_pair, step_lacks, shared_by_both};
-ghost use Rattle.mm_facts.specs.Explained.{block_opened, near_label, stated_at, block_ended_at};
+ghost use Rattle.mm_facts.specs.Explained.{block_opened, near_labels, stated_at, block_ended_at};
+ghost use Rattle.mm_facts.specs.Explained.{told_of};
+ghost use Rattle.mm_facts.specs.Near.{joined};
 ghost use Rattle.mm_facts.specs.Explained.{hypothesis_at, type_asked, types_taken, details_text};
 ghost use Rattle.mm_facts.specs.Explained.{missing_before};
 ghost use Rattle.mm_facts.specs.Mirror.Explaining.{is_told};
@@ -73,11 +76,49 @@ pub fn push_missing_before(out: &mut Vec<u8>, what: &[u8]) -> Result<(), AllocEr
     push_between(out, b"  missing before it: ", what, b"\n")
 }
 
-/// A label that is near to the token at fault.
-pub(crate) fn push_near(out: &mut Vec<u8>, label: &[u8]) -> Result<(), AllocError>
-    ensures { OnOk result (out.new.items ≡ out.old.items ++ detail_text (near_label label.now)) }
+/// Names, each behind a comma.
+fn push_others(out: &mut Vec<u8>, names: &[&[u8]]) -> Result<(), AllocError>
+    ensures { OnOk result (out.new.items
+        ≡ out.old.items ++ flat_map (λ name. codes ", " ++ name) (texts names.now)) }
 {
-    push_between(out, b"  near: ", label, b"\n")
+    for name in names {
+        out.extend_from_slice(b", ")?;
+        out.extend_from_slice(name)?;
+    }
+    Ok(())
+}
+
+/// Names, with a comma between each two.
+pub fn push_joined(out: &mut Vec<u8>, names: &[&[u8]]) -> Result<(), AllocError>
+    ensures { OnOk result (out.new.items ≡ out.old.items ++ joined (texts names.now)) }
+{
+    let Some((first, others)) = names.split_first() else {
+        return Ok(());
+    };
+    out.extend_from_slice(first)?;
+    push_others(out, others)
+}
+
+/// The labels that are near to the token at fault.
+#[tactic(auto, using(crate::proofs::DetailTexts::three_parts))]
+fn push_near_line(out: &mut Vec<u8>, labels: &[&[u8]]) -> Result<(), AllocError>
+    ensures { OnOk result (out.new.items
+        ≡ out.old.items ++ detail_text (near_labels (texts labels.now))) }
+{
+    out.extend_from_slice(b"  near: ")?;
+    push_joined(out, labels)?;
+    out.extend_from_slice(b"\n")
+}
+
+/// The same, if there are such.
+pub(crate) fn push_near(out: &mut Vec<u8>, labels: &[&[u8]]) -> Result<(), AllocError>
+    ensures { OnOk result (out.new.items ≡ out.old.items
+        ++ details_text (told_of (texts labels.now) (near_labels (texts labels.now) ∷ []))) }
+{
+    if labels.is_empty() {
+        return Ok(());
+    }
+    push_near_line(out, labels)
 }
 
 /// The label of the step.

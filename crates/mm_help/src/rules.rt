@@ -562,8 +562,8 @@ one, that isn't that of a statement before this `$p`. Listed labels that no step
 uses count too.
 Line: that where the statement begins; `mm why` tells the place in the proof.
 Usual cause: a label is misspelled, or is that of a statement further down.
-Remedy: `mm why` reports where the label stands, and one that is near: spell the
-label as its statement does, or move the theorem below that.
+Remedy: `mm why` reports where the label stands, and those that are near: spell
+the label as its statement does, or move the theorem below that.
 
 This file breaks it:
     $c a $. p $p a $= p $.

@@ -298,7 +298,6 @@ in the proof of p8, at step 2
   near: one
 f.mm:5:3: P2: no earlier statement has the label, in the proof of p2
   token: nope
-  near: one
 f.mm:6:14: P1: the ( of a compressed proof isn't closed, in the proof of p3
 f.mm:7:18: P3: a hypothesis isn't active, in the proof of p4
   token: fy
@@ -339,7 +338,6 @@ f.mm:13:26: P5: a number in the letters isn't ended, in the proof of p8
   near: one
 f.mm:3:20: P2: no earlier statement has the label, in the proof of p2
   token: nope
-  near: one
 f.mm:5:14: P3: a hypothesis isn't active, in the proof of p4
   token: fy
   stated: f.mm:1:34
@@ -411,13 +409,13 @@ f.mm:11:24: P15: the list or a Z isn't as the strict profile demands, in the pro
             )],
             reply: b"f.mm:2:12: P2: no earlier statement has the label, in the proof of p1
   token: thre
-  near: three
+  near: three, there
 f.mm:3:12: P2: no earlier statement has the label, in the proof of p2
   token: tehre
   near: there
 f.mm:4:12: P2: no earlier statement has the label, in the proof of p3
   token: p4
-  near: p1
+  near: p1, p2
 f.mm:5:12: P2: no earlier statement has the label, in the proof of q5
   token: q6
 f.mm:6:17: P2: no earlier statement has the label, in the proof of r

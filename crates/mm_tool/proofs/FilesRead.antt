@@ -3,7 +3,7 @@ use Rattle.std.proofs.Common.{◌≡◌, ℕ, suc, ◌+◌, ◌<◌, List, ◌�
 use Rattle.std.proofs.Common.{get_or, Result, Err, IsErrOf, refl, sym, ap, ◌∙◌, arith, Bor}
 use Rattle.std.proofs.Common.{take-append-drop, ◌≤◌, [], ap₂, subst, Option, Some, IfSome, zero}
 use Rattle.std.proofs.Common.{filter, Bool, true, false, cond, append_assoc, Ok, OnOk, is_ok}
-use Rattle.std.proofs.Common.{if◌then◌else◌, inr}
+use Rattle.std.proofs.Common.{if◌then◌else◌, inl, inr, codes}
 use Rattle.std.proofs.Math.Seq.{drop-cons}
 use Rattle.std.proofs.lemmas.List.{map-append, take_more, length-map}
 use Rattle.std.specs.List.{AllByRecursion, AllZip, range_with_len}
@@ -35,8 +35,11 @@ use Rattle.mm_base.proofs.Lists.{all_at, all_weaker}
 use Rattle.mm_verdict.proofs.AlikeVerdicts.{alike_back, breaks_alike, name_alike}
 use Rattle.mm_tool.specs.Ending.{AreAllNotes, IsRefusedNote, label_of}
 use Rattle.mm_minimize.specs.declared.search_watch.Searched.{Searched}
-use Rattle.mm_explain.specs.Near.{IsLabelIn}
+use Rattle.mm_explain.specs.Near.{AreNearestIn}
+use Rattle.mm_code.specs.Layout.{texts}
+use Rattle.mm_facts.specs.Near.{joined}
 use Rattle.mm_tool.specs.Notes.{AreLeftOut, AreNotesBeside, AreNotesOn, IsNearLine, near_line}
+use Rattle.mm_tool.specs.Notes.{near_beginning}
 use Rattle.mm_rules.specs.declared.ask.AskFault.TheVariants.{Rule}
 use Rattle.mm_rules.specs.declared.rule.AskRule.TheVariants.{A1}
 use Rattle.mm_verdict.specs.Reply.{IsAskReply}
@@ -227,16 +230,29 @@ four_parts (Ok v) old first second third new a b d e one two three four =
     rw (four, three, two, one) (simp append_assoc)
 four_parts (Err err) old first second third new a b d e one two three four = tt
 
--- The line on a near label was put at the end, where the reply says that no statement has the asked
+-- the line on some labels is made of three parts
+pub near_lines : (xs : List (Bor (List ℕ))) → (length xs ≡ 0 → ⊥)
+    → near_beginning (texts xs) ++ (joined (texts xs) ++ codes "\n") ≡ near_line (texts xs)
+near_lines [] some = absurd (some refl)
+near_lines (x ∷ xs) some = refl
+
+-- The line on near labels was put at the end, where the reply says that no statement has the asked
 -- one.
 pub near_told : {T E : Type 0} (r : Result T E) (files : List PlainFile) (asked : Option (List ℕ))
-    (label reply near old new : List ℕ) (status : ℕ) → asked ≡ Some label
-    → IsAskReply (Rule A1) label reply status
-    → IsLabelIn files near → OnOk r (new ≡ old ++ near_line near)
+    (label reply : List ℕ) (near : List (List ℕ)) (old new : List ℕ) (status : ℕ)
+    → asked ≡ Some label → IsAskReply (Rule A1) label reply status
+    → AreNearestIn files label near → OnOk r (new ≡ old ++ near_line near)
     → OnOk r ((line : List ℕ) × IsNearLine files asked reply line × (new ≡ old ++ line))
 near_told (Ok v) files asked label reply near old new status is unknown among put =
     (near_line near, rw is (inr (status, unknown, near, among, refl)), put)
 near_told (Err e) files asked label reply near old new status is unknown among put = tt
+
+-- Nothing was, where it says another thing.
+pub near_none : (files : List PlainFile) (asked : Option (List ℕ)) (label reply unknown : List ℕ)
+    (status : ℕ) → asked ≡ Some label → IsAskReply (Rule A1) label unknown status
+    → ¬ (reply ≡ unknown) → IsNearLine files asked reply []
+near_none files asked label reply unknown status is told other =
+    rw is (inl ((λ s ask. other (ask.0 ∙ sym told.0)), refl))
 
 -- ---- files that were read
 

@@ -1,13 +1,15 @@
 -- The notes on files that were handed in and not included, on a label that no statement has, and on
 -- what a search for shorter proofs, or for lemmas, came to.
-use Rattle.std.specs.Prelude.{◌≡◌, ℕ, ◌-◌, ◌==◌, List, [], ◌++◌, length, map, take, codes, decimal}
+use Rattle.std.specs.Prelude.{◌≡◌, ℕ, ◌-◌, ◌==◌, List, [], ◌∷◌, ◌++◌, length, map, take, codes}
+use Rattle.std.specs.Prelude.{decimal}
 use Rattle.std.specs.Prelude.{if◌then◌else◌, Option, Some, None, ◌⊎◌}
 use Rattle.std.specs.List.{flat_map}
 use Rattle.clap.specs.Words.{Text}
 use Rattle.mm_text.specs.declared.fault.LoadRule.{LoadRule}
 use Rattle.mm_text.specs.Files.{BreaksLoad, PlainFile}
 use Rattle.mm_text.specs.Included.{left_out}
-use Rattle.mm_explain.specs.Near.{IsLabelIn}
+use Rattle.mm_facts.specs.Near.{joined}
+use Rattle.mm_explain.specs.Near.{AreNearestIn}
 use Rattle.mm_rules.specs.declared.ask.AskFault.TheVariants.{Rule}
 use Rattle.mm_rules.specs.declared.rule.AskRule.TheVariants.{A1}
 use Rattle.mm_rules.specs.Places.{name_of}
@@ -52,20 +54,27 @@ pub record AreLeftOut (files : List PlainFile) (names : List Text) : Type 0 wher
 abbrev pub AreNotesOn : List PlainFile → List ℕ → Type 0
 AreNotesOn files notes = (names : List Text) × AreLeftOut files names × (notes ≡ notes_on names)
 
--- the line on a near label
-abbrev pub near_line : (near : List ℕ) → List ℕ
-near_line near = codes "mm: the nearest label is " ++ (near ++ codes "\n")
+-- how the line on near labels begins
+abbrev pub near_beginning : (near : List (List ℕ)) → List ℕ
+near_beginning (label ∷ []) = codes "mm: the nearest label is "
+near_beginning near = codes "mm: the nearest labels are "
+
+-- the line on near labels, if there are such
+abbrev pub near_line : (near : List (List ℕ)) → List ℕ
+near_line [] = []
+near_line (label ∷ more) =
+    near_beginning (label ∷ more) ++ (joined (label ∷ more) ++ codes "\n")
 
 -- This is said beside the reply to a command that asks about this label: where the reply is that no
--- statement has it, at most one line, with the label of a statement; else nothing.
+-- statement has it, the nearest labels of statements; else nothing.
 abbrev pub IsNearLine : List PlainFile → (asked : Option Text) → (reply line : List ℕ) → Type 0
 IsNearLine files None reply line = line ≡ []
 IsNearLine files (Some label) reply line =
-    (line ≡ [])
+    (((status : ℕ) → ¬ (IsAskReply (Rule A1) label reply status)) × (line ≡ []))
     ⊎ ((status : ℕ) × IsAskReply (Rule A1) label reply status
-    × (near : List ℕ) × IsLabelIn files near × (line ≡ near_line near))
+    × (near : List (List ℕ)) × AreNearestIn files label near × (line ≡ near_line near))
 
--- These are the notes beside the reply: those on the files, and then the one on a near label.
+-- These are the notes beside the reply: those on the files, and then the one on near labels.
 pub record AreNotesBeside (files : List PlainFile) (asked : Option Text) (reply notes : List ℕ)
     : Type 0 where
   pub on_files : List ℕ

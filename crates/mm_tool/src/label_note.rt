@@ -1,30 +1,45 @@
 //! The note on a label that no statement has.
 
 ghost use Rattle.std.specs.Prelude.{◌≡◌, ◌++◌, List, ℕ, map, option_map, IfOk, OnOk};
+ghost use Rattle.mm_code.specs.Layout.{texts};
 ghost use Rattle.mm_text.specs.Files.{plain_file};
 ghost use Rattle.mm_tool.specs.Ending.{label_of};
-ghost use Rattle.mm_tool.specs.Notes.{AreNotesBeside, IsNearLine, near_line};
+ghost use Rattle.mm_tool.specs.Notes.{AreNotesBeside, IsNearLine, near_beginning, near_line};
 
 use crate::notes::notes_on;
 use crate::unread::asked_label;
 use mm_base::{File, Seed};
 use mm_check::Command;
-use mm_explain::nearest_label;
+use mm_explain::nearest_labels;
+use mm_facts::push_joined;
 use mm_rules::{AskFault, AskRule};
 use mm_verdict::ask_reply;
 use std::alloc::{AllocError, Global};
 
-/// Appends the line on a near label.
-fn push_near(notes: &mut Vec<u8>, near: &[u8]) -> Result<(), AllocError>
-    ensures { OnOk result (notes.new.items ≡ notes.old.items ++ near_line near.now) }
+/// How the line on near labels begins.
+fn beginning(near: &[&[u8]]) -> &'static [u8]
+    ensures { result.now ≡ near_beginning (texts near.now) }
 {
-    notes.extend_from_slice(b"mm: the nearest label is ")?;
-    notes.extend_from_slice(near)?;
+    match near {
+        [_] => b"mm: the nearest label is ",
+        _ => b"mm: the nearest labels are ",
+    }
+}
+
+/// Appends the line on near labels, if there are such.
+fn push_near(notes: &mut Vec<u8>, near: &[&[u8]]) -> Result<(), AllocError>
+    ensures { OnOk result (notes.new.items ≡ notes.old.items ++ near_line (texts near.now)) }
+{
+    if near.is_empty() {
+        return Ok(());
+    }
+    notes.extend_from_slice(beginning(near))?;
+    push_joined(notes, near)?;
     notes.extend_from_slice(b"\n")
 }
 
-/// Where a reply says that no statement has the asked label, puts the line on the nearest one at the
-/// end, if there is one.
+/// Where a reply says that no statement has the asked label, puts the line on the nearest ones at
+/// the end, if there are such.
 fn push_nearest(
     notes: &mut Vec<u8>,
     alloc: Global,
@@ -44,10 +59,8 @@ fn push_nearest(
     if reply != unknown.text.as_slice() {
         return Ok(());
     }
-    match nearest_label(alloc, seed, files, label)? {
-        Some(near) => push_near(notes, near),
-        None => Ok(()),
-    }
+    let near = nearest_labels(alloc, seed, files, label)?;
+    push_near(notes, &near)
 }
 
 /// The notes beside the reply to a command over the files.

@@ -537,7 +537,7 @@ fn compares_two_versions(rt: HostRuntime) {
 
 // The line comes after the note on a file, and only beside A1.
 #[test]
-fn tells_the_nearest_label(rt: HostRuntime) {
+fn tells_the_nearest_labels(rt: HostRuntime) {
     for (words, reply, told) in [
         (
             ["mm", "axioms", "tzee", "first.mm"].as_slice(),
@@ -547,7 +547,7 @@ fn tells_the_nearest_label(rt: HostRuntime) {
         (
             ["mm", "show", "--known", "ht", "first.mm"].as_slice(),
             b"ask A1 ht\n".as_slice(),
-            b"mm: the nearest label is tt\n".as_slice(),
+            b"mm: the nearest labels are tt, th\n".as_slice(),
         ),
         (
             ["mm", "normal", "tlp", "first.mm", "four.mm"].as_slice(),

@@ -29,12 +29,13 @@ use Rattle.mm_listing.specs.Halted.{HaltsProof}
 use Rattle.mm_facts.specs.Explained.{Detail, details_text, AreStepDetails, AreMoveDetails}
 use Rattle.mm_facts.specs.Explained.{judged_tokens, AreAsked, hypothesis_asks, AreDisjointDetails}
 use Rattle.mm_facts.specs.Explained.{ArePairDetails, ArePairsAsked, IsTokensFault, is_unmet}
-use Rattle.mm_facts.specs.Explained.{AreAskedInTurn, AreTypesAsked}
+use Rattle.mm_facts.specs.Explained.{AreAskedInTurn, AreTypesAsked, AreListed}
 use Rattle.mm_facts.specs.declared.details.Cause.{Cause}
 use Rattle.mm_facts.specs.declared.details.Cause.TheVariants as cause
 use Rattle.mm_facts.specs.declared.named_halt.NamedHalt.{NamedHalt}
 use Rattle.mm_facts.specs.StepTexts.{IsStepText}
 use Rattle.mm_base.specs.Token.{PlainToken}
+use Rattle.mm_code.specs.Layout.{texts}
 use Rattle.mm_code.specs.declared.code.Code.{Code}
 use Rattle.mm_code.specs.declared.code.Code.TheVariants as codes
 use Rattle.mm_text.specs.Files.{PlainFile}
@@ -86,10 +87,11 @@ IsJudgedWhole profile statements id tokens = OfProof statements id
 -- that the judged ones say, which stop there.
 abbrev pub Causes : Profile → (statements : List Sentence) → (id : ℕ) → (tokens : List (List ℕ))
     → ProofRule → (step : ℕ) → Cause → Type 0
-Causes profile statements id tokens rule step (cause.Token token byte text) =
+Causes profile statements id tokens rule step (cause.Token token byte text listed) =
     (step ≡ 0) × OfProof statements id
     (λ index s. IsWholePlace (take index statements) s (judged_tokens tokens) rule token byte)
     × (slice_get tokens token ≡ Some text.now) × (byte ≤ length text.now)
+    × AreListed tokens (texts listed.items)
 Causes profile statements id tokens rule step (cause.Moves steps stop) =
     (step ≢ 0) × AreJudgedSteps profile statements id tokens steps
     × OfMoves statements id steps.moves (λ index s moves. HaltsProof (limit_of steps.profile)
@@ -114,7 +116,7 @@ AreStepTexts files tokens statements id steps stop = OfMoves statements id steps
 -- those of the cause do
 abbrev pub TellsSteps : List PlainFile → List PlainToken → List Sentence → (id : ℕ) → Cause
     → Type 0
-TellsSteps files tokens statements id (cause.Token token byte text) = Unit {0}
+TellsSteps files tokens statements id (cause.Token token byte text listed) = Unit {0}
 TellsSteps files tokens statements id (cause.Moves steps stop) =
     AreStepTexts files tokens statements id steps.moves stop
 

@@ -53,6 +53,7 @@ returns-then-fault-eq0-clause-cause c =
             (λ known. c.in_ok-index.ensures.known_place known position s number)),
         at,
         omega (arith, short, ap length (same_Some text _ (sym there ∙ at))),
+        c.in_ok-listed.ensures,
       );
     }
 

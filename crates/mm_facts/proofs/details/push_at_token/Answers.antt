@@ -1,6 +1,7 @@
 -- The token is told where the rule is one of labels or of letters.
 use Rattle.std.proofs.Common.{[], ◌∷◌, refl, sym, subst, take}
 use Rattle.std.proofs.lemmas.Result.{on_ok_weaker}
+use Rattle.mm_code.specs.Layout.{texts}
 use Rattle.mm_step.specs.declared.fault.ProofRule.{ProofRule}
 use Rattle.mm_facts.specs.Explained.{token_at_fault, AreTokenDetails}
 use Rattle.mm_facts.proofs.HaltDetails.{one_told}
@@ -13,7 +14,7 @@ returns-in-P2 c =
     let (details, are, added) = told index s proof in (
       details,
       subst
-          (λ (r : ProofRule). AreTokenDetails (take index c.args.book.now.statements) r
+          (λ (r : ProofRule). AreTokenDetails (take index c.args.book.now.statements) (texts c.args.listed.now) r
           c.args.text.now details)
           (sym c.in-P2.is) are,
       added,
@@ -27,7 +28,7 @@ returns-in-P3 c =
     (λ told index s proof. (
       fact ∷ [],
       subst
-          (λ (r : ProofRule). AreTokenDetails (take index c.args.book.now.statements) r
+          (λ (r : ProofRule). AreTokenDetails (take index c.args.book.now.statements) (texts c.args.listed.now) r
           c.args.text.now (fact ∷ []))
           (sym c.in-P3.is) refl,
       one_told c.args.out.now.items c.push_token.new.out.items fact told,
@@ -41,7 +42,7 @@ returns-in-P4 c =
     (λ told index s proof. (
       fact ∷ [],
       subst
-          (λ (r : ProofRule). AreTokenDetails (take index c.args.book.now.statements) r
+          (λ (r : ProofRule). AreTokenDetails (take index c.args.book.now.statements) (texts c.args.listed.now) r
           c.args.text.now (fact ∷ []))
           (sym c.in-P4.is) refl,
       one_told c.args.out.now.items c.push_token-in-P4.new.out.items fact told,
@@ -55,7 +56,7 @@ returns-in-P15 c =
     (λ told index s proof. (
       fact ∷ [],
       subst
-          (λ (r : ProofRule). AreTokenDetails (take index c.args.book.now.statements) r
+          (λ (r : ProofRule). AreTokenDetails (take index c.args.book.now.statements) (texts c.args.listed.now) r
           c.args.text.now (fact ∷ []))
           (sym c.in-P15.is) refl,
       one_told c.args.out.now.items c.push_token-in-P15.new.out.items fact told,

@@ -1,12 +1,13 @@
 -- The moves stop at the first fault, and its facts are told.
-use Rattle.std.proofs.Common.{Some, ◌++◌, List, ℕ, take, inl, inr, refl, subst}
+use Rattle.std.proofs.Common.{Some, ◌++◌, Bor, List, ℕ, take, inl, inr, refl, subst, sym}
 use Rattle.std.specs.List.{AllZip}
+use Rattle.mm_code.specs.Layout.{texts}
 use Rattle.mm_code.specs.Words.{texts_of}
 use Rattle.std.proofs.lemmas.Result.{on_ok_weaker}
 use Rattle.mm_proof.specs.Tokens.{is_incomplete}
 use Rattle.mm_step.specs.declared.profile.Profile.{Profile}
 use Rattle.mm_step.specs.Profiles.{limit_of}
-use Rattle.mm_facts.specs.Explained.{AreWholeDetails}
+use Rattle.mm_facts.specs.Explained.{AreListed, AreWholeDetails}
 use Rattle.mm_facts.specs.StepTexts.{IsStepText}
 use Rattle.mm_facts.specs.Mirror.Explaining.{TellsSteps, told_steps}
 use Rattle.mm_facts.proofs.LackingDetails.{both_told}
@@ -33,8 +34,22 @@ returns-in-Token c =
     on_ok_weaker c.push_at_token.result
     (λ told files tokens step r named index s proof.
     let caused = token_caused c.in-Token.is r in
-    let facts = told index s proof in
-    (facts.0, inl (caused.0, _, _, _, caused.1 index s proof, caused.2, facts.1), facts.2))
+    let facts = told index s proof in (
+      facts.0,
+      inl (
+        caused.0,
+        _,
+        _,
+        _,
+        caused.1 index s proof,
+        caused.2,
+        texts c.deref.result.now,
+        subst (λ (ls : List (Bor (List ℕ))). AreListed (texts_of tokens) (texts ls))
+            (sym c.deref.ensures.value) caused.4,
+        facts.1,
+      ),
+      facts.2,
+    ))
     c.push_at_token.ensures
 
 pub returns-in_ok-push_halt-in-Moves : goal.returns-in_ok-push_halt-in-Moves

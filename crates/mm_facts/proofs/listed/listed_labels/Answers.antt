@@ -2,8 +2,8 @@
 use Rattle.std.proofs.Common.{take, drop, length, ◌-◌, inr}
 use Rattle.mm_step.specs.Plain.{token_texts}
 use Rattle.mm_places.proofs.ProofPlaces.WholePlaces.{never_endless, after_first}
-use Rattle.mm_explain.proofs.UnusedLabels.{listed_there}
-use Rattle.mm_explain.proofs.unused.listed_labels.Goals as goal
+use Rattle.mm_facts.proofs.ListedLabels.{listed_there}
+use Rattle.mm_facts.proofs.listed.listed_labels.Goals as goal
 
 pub returns-in-Some : goal.returns-in-Some
 returns-in-Some c =
