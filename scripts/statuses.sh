@@ -396,7 +396,7 @@ for words in --help -h help '--help check' '-h nonsense'; do
     prints help.txt $words
 done
 narrow help.txt 100
-commands='check faults why axioms users statement find show normal packed small minimize lemmas same try diff explain help version'
+commands='check faults why axioms users statement find show normal packed small minimize lemmas same try mend diff explain help version'
 for command in $commands; do
     constant=$(echo "$command" | tr a-z A-Z)
     literal pages.rt "$constant" >page.txt
@@ -486,6 +486,8 @@ misused users
 misused users th
 misused try
 misused try th first.mm
+misused mend
+misused mend th
 misused show --known th
 misused show --uses th
 misused show --letters th
@@ -673,6 +675,20 @@ ends 0 'yes 7 statements 1 proofs\n' \
     check first.mm open.mm twice.mm empty.mm rests.mm loose.mm tight.mm front.mm steps.mm \
     demo0.mm demo0c.mm shared.mm unfinished.mm terms.mm rules.mm
 ends 4 'load F2\n' '' check first.mm empty.mm empty.mm
+
+# Which changes mend a proof.
+lost=$(printf 'mm: note: no change of one byte or of two neighbours makes it a proof\\n')
+ends 0 'replaced slip.mm:22:28 B A\n' '' mend th1 slip.mm
+ends 0 'proof\n' '' mend th1 demo0c.mm
+ends 1 '' "$lost" mend p faults.mm
+ends 1 'ask A2 tze\n' '' mend tze first.mm
+ends 1 'ask A1 TH\n' 'mm: the nearest label is th\n' mend TH first.mm
+ends 3 'ask A3 q\n' '' mend q open.mm
+ends 0 'proof\n' "$(note empty.mm)" mend th first.mm empty.mm
+ends 4 'load F2\n' '' mend th first.mm first.mm
+ends 4 '' 'mm: cannot read none.mm\n' mend th none.mm
+sed 's/ABGHH/ABGGG/' slip.mm >lost.mm
+ends 1 '' "$lost" mend th1 lost.mm
 
 # What changed between two versions: each a file, or several with `--` between them.
 diff_use='mm diff OLD NEW\n       mm diff OLD.. -- NEW..'

@@ -488,6 +488,43 @@ Example:
   mm try id proof.txt set.mm
 ";
 
+const MEND: &str = "Usage: mm mend LABEL FILES..
+
+Tells which small changes make the faulty proof of the theorem with this label a
+proof of it, where a slip of an editor is at fault. Each is tried, and judged by
+the prover; the files stay as they are. No other proof is judged, and nothing
+after the theorem is read.
+
+Tried are: each two neighbouring words of the proof exchanged; then, from the
+word at fault back to the first, each byte removed, exchanged with the next, or
+replaced by another one, and another one put before it. Of a long proof only the
+last places are tried. Often several changes are accepted: choose.
+
+Replies, a line for each change, ten at most, in the order above:
+  exchanged FILE:LINE:COLUMN X Y                                    status 0
+      The word or byte X that stands there, and the next one, Y.
+  removed FILE:LINE:COLUMN X                                        status 0
+      The byte X that stands there.
+  replaced FILE:LINE:COLUMN X Y                                     status 0
+      The byte X that stands there, by Y.
+  put FILE:LINE:COLUMN X                                            status 0
+      The byte X, before what stands there.
+  Nothing, where no change is accepted; a note says so.             status 1
+  proof                                                             status 0
+      The proof is right as it stands.
+  ask A1 LABEL                                                      status 1
+      No statement has this label.
+  ask A2 LABEL                                                      status 1
+      It is the label of a hypothesis or of an axiom.
+  ask A3 LABEL                                                      status 3
+      The proof of this theorem holds a `?`.
+  no or load                                                        status 1, 4
+      What stands before the theorem is refused: `mm help check`.
+
+Example:
+  mm mend id set.mm
+";
+
 const DIFF: &str = "Usage: mm diff OLD NEW
        mm diff OLD.. -- NEW..
 
@@ -644,6 +681,12 @@ fn try_page() -> &'static str
     TRY
 }
 
+fn mend_page() -> &'static str
+    ensures { IsTrue (is_page_of (codes "mend") result.now) }
+{
+    MEND
+}
+
 fn diff_page() -> &'static str
     ensures { IsTrue (is_page_of (codes "diff") result.now) }
 {
@@ -679,7 +722,7 @@ fn page_of<'t>(command: &'t str, text: &'t str) -> Page<'t>
 }
 
 /// A page for each command, in the order of the command line.
-pub fn program_pages() -> [Page<'static>; 19]
+pub fn program_pages() -> [Page<'static>; 20]
     ensures commands { map (λ page. page.command.now) result ≡ command_names }
     ensures usage { AllByRecursion (λ page. IsTrue (is_page_of page.command.now page.text.now))
         result }
@@ -700,6 +743,7 @@ pub fn program_pages() -> [Page<'static>; 19]
         page_of("lemmas", lemmas_page()),
         page_of("same", same_page()),
         page_of("try", try_page()),
+        page_of("mend", mend_page()),
         page_of("diff", diff_page()),
         page_of("explain", explain_page()),
         page_of("help", help_page()),

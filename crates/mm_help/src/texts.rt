@@ -98,6 +98,8 @@ Commands:
   try LABEL PROOF FILES..
                          tells whether the text in the file PROOF is a proof of the theorem with
                          this label, whatever stands in FILES as its proof
+  mend LABEL FILES..     tells which changes of one byte, or of two neighbours, make the faulty
+                         proof of the theorem with this label a proof of it
   diff OLD NEW
   diff OLD.. -- NEW..
                          checks two versions of a database, each in one file or in several, and
@@ -229,6 +231,14 @@ Replies of try, on standard output:
   text RULE STEP
       It is none, as for same; or, with A3, its known part breaks no rule. The place in PROOF with
       what explains it, or what is on the stack, follows. Status 1; 3 for A3; 4 for L1 and F3.
+
+Replies of mend, on standard output:
+  exchanged FILE:LINE:COLUMN X Y, removed FILE:LINE:COLUMN X, replaced FILE:LINE:COLUMN X Y, or
+  put FILE:LINE:COLUMN X, one on each line
+      What changes, where it stands, and what is put in its place: ten at most, those near the fault
+      first. Status 0; 1 and no line where no change is accepted, as standard error says.
+  proof
+      The proof is right as it stands. Status 0.
 
 Replies of diff, on standard output:
   G LABEL, A LABEL, C LABEL or P LABEL, one on each line

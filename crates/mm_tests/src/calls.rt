@@ -7,6 +7,7 @@ mod diff;
 mod find;
 mod growths;
 mod lemmas;
+mod mend;
 mod near;
 mod profiles;
 mod save;

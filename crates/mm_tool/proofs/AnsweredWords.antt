@@ -15,7 +15,7 @@ use Rattle.mm_tool.specs.Ending.{EndsWithoutWords, AnswersWords, IsReplyOver, St
 use Rattle.mm_tool.specs.Ending.{error_line, stop_status, AddsLabel}
 use Rattle.mm_words.specs.Unread.{unread_stop}
 use Rattle.mm_help.specs.Help.{IsHelp}
-use Rattle.mm_tool.specs.Ending.{StopsDiff, label_of}
+use Rattle.mm_tool.specs.Ending.{StopsDiff, StopsMend, label_of}
 use Rattle.mm_help.specs.Help.{IsHelpFault}
 use Rattle.std.specs.List.{AllZip}
 use Rattle.mm_base.proofs.Lists.{zip_length}
@@ -33,7 +33,7 @@ use Rattle.mm_words.specs.declared.stop.Stop.TheVariants.{CannotWrite, Memory, U
 use Rattle.std.specs.Global.{Vec}
 use Rattle.mm_rules.specs.Status.{number_of}
 use Rattle.mm_words.specs.Words.{Asks, AsksExplain, AsksHelp, AsksRun, AsksText, IsWordFault}
-use Rattle.mm_words.specs.Words.{AsksDiff}
+use Rattle.mm_words.specs.Words.{AsksDiff, AsksMend}
 use Rattle.mm_help.specs.Explained.{IsExplanation, IsExplanationFault}
 use Rattle.mm_words.specs.declared.request.Request.{Request}
 use Rattle.mm_words.specs.declared.request.TextQuestion.{TextQuestion}
@@ -273,11 +273,23 @@ module _ {O : Type 0} (contents : O → Option (List ℕ)) (holds : List ℕ →
       → AsksDiff words before after → StopsDiff contents holds may_fail before after max stop old new
       → Stops contents holds may_fail texts max words stop old new
   stops_versions before after (CannotRead name told) old new asked (unread, none, same) =
-      (inr (inr (before, after, asked, unread, none)), same)
+      (inr (inr (inl (before, after, asked, unread, none))), same)
   stops_versions before after CannotWrite old new asked (text, outcome, reply, broke) =
-      (text, outcome, inr (inr (inr (inr (inr (before, after, asked, reply))))), broke)
+      (text, outcome, inr (inr (inr (inr (inr (inl (before, after, asked, reply)))))), broke)
   stops_versions before after Memory old new asked h = h
   stops_versions before after stop old new asked h = absurd h
+
+  -- Where the question what mends a proof ended without a reply, the words have no answer.
+  pub stops_mend : (label : List ℕ) (names : List (List ℕ)) (stop : Stop) (old new : Counted O)
+      → AsksMend words label names
+      → StopsMend contents holds may_fail label names max stop old new
+      → Stops contents holds may_fail texts max words stop old new
+  stops_mend label names (CannotRead name told) old new asked (unread, is, same) =
+      (inr (inr (inr (label, names, asked, unread, is))), same)
+  stops_mend label names CannotWrite old new asked (text, outcome, reply, broke) =
+      (text, outcome, inr (inr (inr (inr (inr (inr (label, names, asked, reply)))))), broke)
+  stops_mend label names Memory old new asked h = h
+  stops_mend label names stop old new asked h = absurd h
 
 -- A question about a text ends as the command over the files does, once the proof is read.
 pub text_replies : {O E : Type 0} (question : TextQuestion) (contents : O → Option (List ℕ)) (holds : List ℕ → KnownFile) (max : ℕ) (label proof : List ℕ) (names : List (List ℕ)) (command : Command)

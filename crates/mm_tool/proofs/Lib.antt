@@ -1,3 +1,4 @@
 pub mod FilesRead
 pub mod AnsweredWords
 pub mod ComparedVersions
+pub mod MendsTold

@@ -34,7 +34,8 @@ use Rattle.mm_help.specs.Help.{IsHelp, IsUnknownCommand}
 use Rattle.mm_words.specs.Unread.{unread_stop}
 use Rattle.mm_tool.specs.Notes.{AreNotesBeside, refused_note, search_line}
 use Rattle.mm_words.specs.Words.{AsksHelp, AsksVersion, AsksExplain, AsksRun, AsksText}
-use Rattle.mm_words.specs.Words.{AreRefusedWords, AsksDiff}
+use Rattle.mm_words.specs.Words.{AreRefusedWords, AsksDiff, AsksMend}
+use Rattle.mm_tool.specs.Mends.{IsMendReplyOver}
 use Rattle.mm_tool.specs.Versions.{IsDiffReplyOver, IsVersionUnreadable}
 use Rattle.mm_words.specs.declared.arguments.ArgumentFault.{ArgumentFault}
 use Rattle.mm_words.specs.declared.arguments.ArgumentFault.TheVariants as argument
@@ -150,8 +151,10 @@ AnswersWords holds texts max words text outcome =
     ⊎ (((question : TextQuestion) × (label proof : Text) × (names : List Text)
     × AsksText question words label proof names
     × IsTextReplyOver question holds label proof names max text outcome)
-    ⊎ ((old new : List Text) × AsksDiff words old new
-    × IsDiffReplyOver holds old new max text outcome)))))
+    ⊎ (((old new : List Text) × AsksDiff words old new
+    × IsDiffReplyOver holds old new max text outcome)
+    ⊎ ((label : Text) × (names : List Text) × AsksMend words label names
+    × IsMendReplyOver holds label names max text outcome))))))
 
 -- ---- ends without an answer
 
@@ -248,6 +251,19 @@ StopsDiff contents holds may_fail before after max CannotWrite old new =
 StopsDiff contents holds may_fail before after max Memory old new = IsUntouched old new
 StopsDiff contents holds may_fail before after max other old new = ⊥
 
+-- The question what mends a proof ended so, and that is what standard output shows of it.
+abbrev pub StopsMend : {O : Type 0} → (O → Option (List ℕ)) → (List ℕ → KnownFile)
+    → (List ℕ → Type 0) → (label : Text) → List Text → ℕ
+    → Stop → Counted O → Counted O → Type 0
+StopsMend contents holds may_fail label names max (CannotRead name told) old new =
+    IsUnreadable holds may_fail names max name.now
+    × (option_map (λ l. l.now) told ≡ Some label) × IsUntouched old new
+StopsMend contents holds may_fail label names max CannotWrite old new =
+    (text : List ℕ) × (outcome : Outcome)
+    × IsMendReplyOver holds label names max text outcome × BreaksOff contents text old new
+StopsMend contents holds may_fail label names max Memory old new = IsUntouched old new
+StopsMend contents holds may_fail label names max other old new = ⊥
+
 -- The words have no answer, and that is what standard output shows of it.
 abbrev pub Stops : {O : Type 0} → (O → Option (List ℕ)) → (List ℕ → KnownFile)
     → (List ℕ → Type 0) → Texts → ℕ → List Text
@@ -266,8 +282,11 @@ Stops contents holds may_fail texts max words (CannotRead name told) old new =
     × AsksText question words label proof names
     × IsProofUnreadable holds may_fail proof names max name.now
     × (option_map (λ l. l.now) told ≡ Some label))
-    ⊎ ((before after : List Text) × AsksDiff words before after
-    × IsVersionUnreadable holds may_fail before after max name.now × (told ≡ None))))
+    ⊎ (((before after : List Text) × AsksDiff words before after
+    × IsVersionUnreadable holds may_fail before after max name.now × (told ≡ None))
+    ⊎ ((label : Text) × (names : List Text) × AsksMend words label names
+    × IsUnreadable holds may_fail names max name.now
+    × (option_map (λ l. l.now) told ≡ Some label)))))
     × IsUntouched old new
 Stops contents holds may_fail texts max words CannotWrite old new =
     (text : List ℕ) × (outcome : Outcome) × AnswersWords holds texts max words text outcome

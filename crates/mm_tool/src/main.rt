@@ -6,6 +6,7 @@ mod files;
 mod folder;
 mod hint;
 mod label_note;
+mod mends;
 mod notes;
 mod progress_line;
 mod say;

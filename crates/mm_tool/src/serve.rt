@@ -9,7 +9,8 @@ ghost use Rattle.mm_rules.specs.Status.{number_of};
 ghost use Rattle.mm_tool.specs.Ending.{BreaksOff, Ends, EndsWithoutWords, AnswersWords};
 ghost use Rattle.mm_tool.specs.Ending.{IsReplyOver};
 ghost use Rattle.mm_tool.specs.Answer.{outcome_of, quiet};
-ghost use Rattle.mm_tool.specs.Ending.{Stops, StopsDiff, TellsNotes};
+ghost use Rattle.mm_tool.specs.Ending.{Stops, StopsDiff, StopsMend, TellsNotes};
+ghost use Rattle.mm_tool.specs.Mends.{IsMendReplyOver};
 ghost use Rattle.mm_tool.specs.Versions.{IsDiffReplyOver};
 ghost use Rattle.mm_tool.specs.Ending.{IsTextCommand, IsTextReplyOver, StopsText};
 ghost use Rattle.mm_words.specs.Words.{AsksNamed};
@@ -31,6 +32,7 @@ use crate::answer::Answer;
 use crate::files::{Comments, FileFault, ReadFile, read_file, read_files};
 use crate::folder::{Folder, Resources};
 use crate::hint::{keep_hint, tell_reason};
+use crate::mends::noted_mends;
 use crate::progress_line::{ProgressLine, watched_reply};
 use crate::search_note::{CHECK, all_notes};
 use crate::unread::{asked_label, labelled, tell_unread};
@@ -43,7 +45,8 @@ use mm_step::Profile;
 use mm_text::{BYTE_LIMIT, Counted, alike_files_leave_out_the_same};
 use mm_verdict::Reply;
 use mm_words::{
-    Arguments, AskedPatterns, AskedText, AskedVersions, Request, Stop, TextQuestion, request_of,
+    Arguments, AskedMend, AskedPatterns, AskedText, AskedVersions, Request, Stop, TextQuestion,
+    request_of,
 };
 use std::alloc::{AllocError, Global};
 use std::io::Write;
@@ -346,6 +349,47 @@ fn diff_over<'a, F: Folder, O: Write>(
     noted_reply(out, &compared.reply, notes)
 }
 
+/// Tells which changes mend the proof of a theorem, and writes the reply. The notes beside it are
+/// made before it is written.
+///
+/// # Errors
+///
+/// As for `run_over`.
+fn mend_over<'a, F: Folder, O: Write>(
+    resources: Resources,
+    folder: &F,
+    asked: &AskedMend<'a>,
+    max: usize,
+    out: &mut Counted<O>,
+) -> Result<Answer, Stop<'a>>
+    requires { faults_of out.old < u64.MAX }
+    ensures replies { IfOk result (λ answer. (text : List ℕ) × IsMendReplyOver
+        (F.holds folder.now) asked.now.label.now
+        (map (λ name. name.now) asked.now.names.items) max text (outcome_of answer)
+        × TakesWhole O.contents text out.old out.new) }
+    ensures stops { IfErr result (λ stop. StopsMend O.contents (F.holds folder.now)
+        (F.may_fail folder.now) asked.now.label.now
+        (map (λ name. name.now) asked.now.names.items) max stop out.old out.new) }
+{
+    let label = asked.label.as_bytes();
+    let kept = Comments::Kept;
+    let files = match read_files(resources.alloc, folder, &asked.names, max, kept) {
+        Ok(files) => files,
+        Err(FileFault::CannotRead(name)) => {
+            return Err(Stop::CannotRead {
+                name,
+                label: Some(label),
+            });
+        }
+        Err(FileFault::TooLong) => return reply(out, TOO_LONG, Status::Stopped),
+        Err(FileFault::Memory) => return Err(Stop::Memory),
+    };
+    let files = plain_files(resources.alloc, &files)?;
+    let mended = noted_mends(resources, &files, label)?;
+    let notes = mended.note;
+    noted_reply(out, &mended.reply, notes)
+}
+
 /// Does what the words ask for, and gives back what goes with the answer that was written.
 fn answer<'a, F: Folder, O: Write, P: Write>(
     resources: Resources,
@@ -385,6 +429,7 @@ fn answer<'a, F: Folder, O: Write, P: Write>(
         }
         Request::Find(asked) => find_over(resources, folder, &asked, BYTE_LIMIT, out, progress),
         Request::Diff(asked) => diff_over(resources, folder, &asked, BYTE_LIMIT, out),
+        Request::Mend(asked) => mend_over(resources, folder, &asked, BYTE_LIMIT, out),
         Request::Text(asked) => {
             match text_over(resources, folder, &asked, BYTE_LIMIT, out, progress) {
                 Ok(answer) => Ok(answer),

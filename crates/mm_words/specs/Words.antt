@@ -230,6 +230,10 @@ same_line = text_line (codes "same")
 abbrev pub try_line : App
 try_line = text_line (codes "try")
 
+-- `mend LABEL FILES..`
+abbrev pub mend_line : App
+mend_line = question_line (codes "mend")
+
 -- `diff OLD NEW`, `diff OLD.. -- NEW..`: what stands behind the command are names of files, at least
 -- one, among which `clap` leaves out the `--`
 abbrev pub diff_line : App
@@ -283,9 +287,11 @@ forms_line =
 abbrev pub shorter_line : App
 shorter_line = with_subcommand (with_subcommand forms_line minimize_line.top) lemmas_line.top
 
--- and those that ask about a proof's text
+-- and those that ask about a proof's text, and what mends a proof
 abbrev pub proofs_line : App
-proofs_line = with_subcommand (with_subcommand shorter_line same_line.top) try_line.top
+proofs_line =
+    with_subcommand
+    (with_subcommand (with_subcommand shorter_line same_line.top) try_line.top) mend_line.top
 
 -- and the one that compares two versions of a database
 abbrev pub versions_line : App
@@ -300,8 +306,8 @@ versions_line = with_subcommand proofs_line diff_line.top
 -- `mm small [--file] LABEL FILES..`, all three with `--all NAME FILES..` too,
 -- `mm minimize LABEL FILES..`, `mm minimize --all [--duplicates] NAME FILES..`,
 -- `mm minimize --list FILES..`, `mm lemmas --list [--most N] [--least BYTES] FILES..`,
--- `mm same LABEL PROOF FILES..`, `mm try LABEL PROOF FILES..`, `mm diff OLD NEW`,
--- `mm diff OLD.. -- NEW..`, `mm explain [CODE..]`,
+-- `mm same LABEL PROOF FILES..`, `mm try LABEL PROOF FILES..`, `mm mend LABEL FILES..`,
+-- `mm diff OLD NEW`, `mm diff OLD.. -- NEW..`, `mm explain [CODE..]`,
 -- `mm help [COMMAND]`, `mm version`, `mm --version`, and everywhere `--help`
 abbrev pub command_line : App
 command_line =
@@ -612,6 +618,13 @@ AsksText asked words label proof names =
     × (unwrap_or (first_of (codes "PROOF") rows) [] ≡ proof)
     × (unwrap_or (all_of (codes "FILES") rows) [] ≡ names)
 
+-- They ask which changes mend the proof of the theorem with this label in the files with these names.
+abbrev pub AsksMend : List Text → (label : Text) → List Text → Type 0
+AsksMend words label names =
+    (rows : List Row) × Commands words (codes "mend") rows
+    × (unwrap_or (first_of (codes "LABEL") rows) [] ≡ label)
+    × (unwrap_or (all_of (codes "FILES") rows) [] ≡ names)
+
 -- These are the names of files on both sides of the first `--` among the words, at least one on
 -- each; where no word is `--`, of two words the first and the second.
 abbrev pub AreSides : (words old new : List Text) → Type 0
@@ -706,6 +719,8 @@ Asks words (requests.Find asked) =
     AsksFind words (map (λ pattern. pattern.now) asked.patterns.items) asked.whole asked.hypotheses
     (map (λ name. name.now) asked.names.items)
     × AreShort (map (λ pattern. pattern.now) asked.patterns.items)
+Asks words (requests.Mend asked) =
+    AsksMend words asked.label.now (map (λ name. name.now) asked.names.items)
 Asks words (requests.Diff asked) =
     AsksDiff words (map (λ name. name.now) asked.old.now) (map (λ name. name.now) asked.new.now)
 
@@ -716,14 +731,14 @@ IsFaulty words =
     × (kind ≢ DisplayVersion)
 
 -- They name no command that asks for a proof in another form or for a shorter one, about a proof's
--- text, or for lemmas.
+-- text, for lemmas, or for what mends a proof.
 abbrev pub NamesNoForm : List Text → Type 0
 NamesNoForm words =
     (rows : List Row)
     → ¬ Commands words (codes "normal") rows × ¬ Commands words (codes "packed") rows
     × ¬ Commands words (codes "small") rows × ¬ Commands words (codes "minimize") rows
     × ¬ Commands words (codes "same") rows × ¬ Commands words (codes "try") rows
-    × ¬ Commands words (codes "lemmas") rows
+    × ¬ Commands words (codes "lemmas") rows × ¬ Commands words (codes "mend") rows
 
 -- They name no command that asks for a text of the program itself.
 abbrev pub NamesNoText : List Text → Type 0

@@ -12,7 +12,7 @@ ghost use Rattle.mm_words.specs.Words.{option_rule, options_rule, packed_line, p
 ghost use Rattle.mm_words.specs.Words.{profile_line, proof_rule, proofs_line, question_line};
 ghost use Rattle.mm_words.specs.Words.{rests_line, same_line, shorter_line, show_line, small_line};
 ghost use Rattle.mm_words.specs.Words.{statement_line, text_line, topic_rule, try_line, users_line};
-ghost use Rattle.mm_words.specs.Words.{lemmas_line, version_line, why_line};
+ghost use Rattle.mm_words.specs.Words.{lemmas_line, mend_line, version_line, why_line};
 
 use clap::{Arg, ArgAction, Command};
 use std::alloc::{AllocError, Global};
@@ -48,6 +48,8 @@ pub(crate) const LEMMAS: &str = "lemmas";
 pub(crate) const SAME: &str = "same";
 
 pub(crate) const TRY: &str = "try";
+
+pub(crate) const MEND: &str = "mend";
 
 pub(crate) const DIFF: &str = "diff";
 
@@ -486,6 +488,19 @@ fn try_command<'a>(alloc: Global) -> Result<Command<'a>, AllocError>
     )
 }
 
+/// The command `mend`, for `clap`.
+fn mend_command<'a>(alloc: Global) -> Result<Command<'a>, AllocError>
+    ensures shape { IfOk result (λ command. app_of command ≡ mend_line) }
+    ensures local { IfOk result (λ command. (out-Command command).has_globals ≡ false) }
+{
+    question_command(
+        alloc,
+        MEND,
+        "tells which small changes mend the proof of a theorem",
+        "mm mend LABEL FILES..",
+    )
+}
+
 /// How `diff` is used.
 pub(crate) const DIFF_USE: &str = "mm diff OLD NEW
        mm diff OLD.. -- NEW..";
@@ -613,14 +628,15 @@ fn shorter_command<'a>(alloc: Global) -> Result<Command<'a>, AllocError>
     with_command(command, lemmas_command(alloc))
 }
 
-/// That with the commands that ask about a proof's text, for `clap`.
+/// That with the commands that ask about a proof's text, and what mends a proof, for `clap`.
 fn proofs_command<'a>(alloc: Global) -> Result<Command<'a>, AllocError>
     ensures shape { IfOk result (λ command. app_of command ≡ proofs_line) }
     ensures local { IfOk result (λ command. (out-Command command).has_globals ≡ false) }
 {
     let command = shorter_command(alloc);
     let command = with_command(command, same_command(alloc));
-    with_command(command, try_command(alloc))
+    let command = with_command(command, try_command(alloc));
+    with_command(command, mend_command(alloc))
 }
 
 /// That with the command that compares two versions of a database, for `clap`.

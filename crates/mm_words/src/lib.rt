@@ -21,6 +21,6 @@ mod stop;
 mod words;
 
 pub use arguments::{ArgumentFault, Arguments, words_of};
-pub use request::{AskedPatterns, AskedText, AskedVersions, Request, TextQuestion};
+pub use request::{AskedMend, AskedPatterns, AskedText, AskedVersions, Request, TextQuestion};
 pub use stop::Stop;
 pub use words::request_of;

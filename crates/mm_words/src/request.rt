@@ -19,6 +19,14 @@ pub struct AskedText<'a> {
     pub names: Vec<&'a str>,
 }
 
+/// A question which changes mend the proof of the theorem with a label, in the database in the files
+/// with these names.
+#[derive(Drop)]
+pub struct AskedMend<'a> {
+    pub label: &'a str,
+    pub names: Vec<&'a str>,
+}
+
 /// A question for the assertions that have these patterns, in the database in the files with these
 /// names.
 #[derive(Drop)]
@@ -55,6 +63,8 @@ pub enum Request<'a> {
     Find(AskedPatterns<'a>),
     /// To read a proof's text, and to say what it is to a theorem.
     Text(AskedText<'a>),
+    /// To tell which changes mend a proof.
+    Mend(AskedMend<'a>),
     /// To tell what changed between two versions of a database.
     Diff(AskedVersions<'a>),
 }

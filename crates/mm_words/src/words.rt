@@ -10,8 +10,8 @@ ghost use Rattle.mm_step.specs.declared.profile.Profile.{Profile};
 use crate::axioms_request::axioms_request;
 use crate::command_line::{
     ALL, AXIOMS, CHECK, CODE, COMMAND, DIFF, EXPLAIN, FAULTS, FILES, FIND, HELP, LABEL, LEMMAS,
-    MINIMIZE, NORMAL, PACKED, PROOF, SAME, SHOW, SMALL, STATEMENT, STRICT, TRY, USERS, VERSION,
-    WHY, whole_command,
+    MEND, MINIMIZE, NORMAL, PACKED, PROOF, SAME, SHOW, SMALL, STATEMENT, STRICT, TRY, USERS,
+    VERSION, WHY, whole_command,
 };
 use crate::diff_request::diff_request;
 use crate::find_request::{find_request, statement_request};
@@ -20,7 +20,7 @@ use crate::lemmas_request::lemmas_request;
 use crate::matches::{asked_profile, asked_word, is_given, values_of};
 use crate::minimize_request::minimize_request;
 use crate::refused_words::{first_topic, request_of_error};
-use crate::request::{AskedText, Request, TextQuestion};
+use crate::request::{AskedMend, AskedText, Request, TextQuestion};
 use crate::show_request::show_request;
 use crate::stop::Stop;
 use clap::{ArgMatches, Command};
@@ -82,8 +82,20 @@ fn asked_text<'a>(
     }))
 }
 
+/// What the matches of the command `mend` ask for.
+fn mend_request<'a>(alloc: Global, matches: &ArgMatches<'a>) -> Result<Request<'a>, AllocError>
+    ensures { IfOk result (λ request. (words : List Text)
+        → Commands words (codes "mend") (rows_of (found_of matches.now))
+        → Asks words request) }
+{
+    Ok(Request::Mend(AskedMend {
+        label: asked_word(matches, LABEL),
+        names: values_of(alloc, matches, FILES)?,
+    }))
+}
+
 /// What these matches of the words ask for by the commands `normal`, `packed`, `small`, `minimize`,
-/// `same`, `try` and `lemmas`; nothing where they name none of these.
+/// `same`, `try`, `lemmas` and `mend`; nothing where they name none of these.
 fn form_request<'a>(
     alloc: Global,
     matches: &ArgMatches<'a>,
@@ -115,6 +127,9 @@ fn form_request<'a>(
     }
     if let Some(lemmas) = matches.subcommand_matches(LEMMAS) {
         return Ok(Some(lemmas_request(alloc, lemmas)?));
+    }
+    if let Some(mend) = matches.subcommand_matches(MEND) {
+        return Ok(Some(mend_request(alloc, mend)?));
     }
     Ok(None)
 }

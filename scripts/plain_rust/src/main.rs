@@ -11,6 +11,7 @@ mod mm_verdict;
 mod mm_render;
 mod mm_facts;
 mod mm_explain;
+mod mm_mend;
 mod mm_axioms;
 mod mm_find;
 mod mm_save;

@@ -5,7 +5,7 @@ use Rattle.mm_tool.specs.Answer.{quiet}
 use Rattle.mm_tool.proofs.AnsweredWords.{answers_text, asks_explained, asks_run, explained}
 use Rattle.mm_tool.proofs.AnsweredWords.{helped, stops_answer, stops_command, stops_help}
 use Rattle.mm_tool.proofs.AnsweredWords.{stops_refused, stops_text, stops_unexplained}
-use Rattle.mm_tool.proofs.AnsweredWords.{stops_versions}
+use Rattle.mm_tool.proofs.AnsweredWords.{stops_mend, stops_versions}
 use Rattle.mm_words.proofs.AskedWords.{named_by_words}
 use Rattle.mm_words.proofs.AskedWords.{texts_in}
 use Rattle.mm_tool.proofs.serve.answer.Goals as goal
@@ -147,7 +147,7 @@ returns-in-Diff-clause-answers g c =
     IfOk-weaker c.diff_over.result _ _
     (λ answer told.
     let (text, reply, taken) = told in
-    (text, inr (inr (inr (inr (inr (_, _, asked, reply))))), taken))
+    (text, inr (inr (inr (inr (inr (inl (_, _, asked, reply)))))), taken))
     c.diff_over.ensures.replies
 
 pub returns-in-Diff-clause-stops : goal.returns-in-Diff-clause-stops
@@ -158,6 +158,24 @@ returns-in-Diff-clause-stops g c =
     (g.F.Folder.may_fail c.args.folder.now) c.args.texts.now _ (texts_in c.args.words.now) _ _ stop
     _ _ asked told)
     c.diff_over.ensures.stops
+
+pub returns-in-Mend-clause-answers : goal.returns-in-Mend-clause-answers
+returns-in-Mend-clause-answers g c =
+    let asked = rw c.in-Mend.is at c.in_ok-topic.ensures.request in
+    IfOk-weaker c.mend_over.result _ _
+    (λ answer told.
+    let (text, reply, taken) = told in
+    (text, inr (inr (inr (inr (inr (inr (_, _, asked, reply)))))), taken))
+    c.mend_over.ensures.replies
+
+pub returns-in-Mend-clause-stops : goal.returns-in-Mend-clause-stops
+returns-in-Mend-clause-stops g c =
+    let asked = rw c.in-Mend.is at c.in_ok-topic.ensures.request in
+    IfErr-weaker c.mend_over.result _ _
+    (λ stop told. stops_mend g.O.Write.contents (g.F.Folder.holds c.args.folder.now)
+    (g.F.Folder.may_fail c.args.folder.now) c.args.texts.now _ (texts_in c.args.words.now) _ _ stop
+    _ _ asked told)
+    c.mend_over.ensures.stops
 
 pub returns-clause-stops : goal.returns-clause-stops
 returns-clause-stops g c =

@@ -105,6 +105,13 @@ returns-in-Some-subcommand_matches-6-clause-request c = λ words met.
     (c.in-Some-subcommand_matches-6.ensures.found.0 refl)
     c.in-Some-subcommand_matches-6.ensures.rows)
 
+pub returns-in-Some-subcommand_matches-7-clause-request :
+    goal.returns-in-Some-subcommand_matches-7-clause-request
+returns-in-Some-subcommand_matches-7-clause-request c = λ words met.
+    c.in_ok-mend_request.ensures words (commands_met words c.args.matches.now _ _ met
+    (c.in-Some-subcommand_matches-7.ensures.found.0 refl)
+    c.in-Some-subcommand_matches-7.ensures.rows)
+
 pub returns-clause-none : goal.returns-clause-none
 returns-clause-none c = λ words met rows.
     let other = not_commanded words c.args.matches.now in (
@@ -122,4 +129,6 @@ returns-clause-none c = λ words met rows.
           c.in_default-subcommand_matches-5.is (c.subcommand_matches-6.ensures.found.1 named)),
       other _ rows met (λ named. none_there c.subcommand_matches-7.result
           c.in_default-subcommand_matches-6.is (c.subcommand_matches-7.ensures.found.1 named)),
+      other _ rows met (λ named. none_there c.subcommand_matches-8.result
+          c.in_default-subcommand_matches-7.is (c.subcommand_matches-8.ensures.found.1 named)),
     )
