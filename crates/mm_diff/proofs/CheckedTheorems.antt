@@ -59,6 +59,12 @@ few_kept c well =
     (sym well.origin.sentences)
     (few_labels c.profile c.files well.origin.statements well.origin.accepted)
 
+-- its statements obey the rules of meaning
+pub kept_meant : (c : Conclusion) → KeptWell c → AllMeant c.sentences
+kept_meant c well =
+    subst AllMeant (sym well.origin.sentences)
+    (all_meant c.profile well.origin.statements well.origin.accepted.obeyed)
+
 -- ---- the statement of a theorem
 
 -- a theorem by its kind

@@ -1,7 +1,8 @@
 -- Statements that say the same, and whose proofs spell the same trees, tell no change; and where
 -- they do so beside those of two other databases, the same is told of both. On this file rests the
 -- law of `laws`.
-use Rattle.std.proofs.Common.{◌≡◌, ℕ, List, [], ◌∷◌, take, refl, sym, ap, subst, ◌∙◌}
+use Rattle.std.proofs.Common.{◌≡◌, ℕ, List, [], ◌∷◌, Some, take, slice_get, inl, inr, refl, sym}
+use Rattle.std.proofs.Common.{ap, subst, ◌∙◌, arith}
 use Rattle.mm_base.specs.Statement.{PlainStatement}
 use Rattle.mm_base.proofs.Lists.{contains_from_at}
 use Rattle.mm_frame.specs.Frame.{AreMandatory, IsMandatoryAt}
@@ -14,10 +15,15 @@ use Rattle.mm_rules.specs.Conclusion.{labels_in}
 use Rattle.mm_rules.specs.Rests.{AreInOrder, HasTree}
 use Rattle.mm_rules.specs.Verdict.{sentences}
 use Rattle.mm_verdict.proofs.Questions.AskedTheorems.{one_tree}
-use Rattle.mm_diff.specs.Diff.{AreAlike, IsAlone, IsAssertionNamed, IsChanged}
-use Rattle.mm_diff.specs.Diff.{IsReproved, TellsChanges, changes_text, changes_status}
+use Rattle.mm_axioms.proofs.Resting.RestsOn.{in_order_once}
+use Rattle.mm_diff.specs.Diff.{AreAlike, AreRenamed, HasPlaces, HaveTurned, IsAlone}
+use Rattle.mm_diff.specs.Diff.{IsAssertionNamed, IsChanged, IsMissing, IsMoved}
+use Rattle.mm_diff.specs.Diff.{IsReproved, IsShared}
+use Rattle.mm_diff.specs.Diff.{PlainChanges, TellsChanges}
+use Rattle.mm_diff.specs.Diff.{changes_text, changes_status, no_changes}
 use Rattle.mm_diff.specs.Laws.{HaveSameTrees, TellsNothing}
 use Rattle.mm_diff.proofs.DifferingNumbers.{one_number}
+use Rattle.mm_diff.proofs.MovedPlaces.{one_index}
 
 -- an assertion says what it says
 alike_itself : (st : List Sentence) (id index : ℕ) (s : Sentence) → IsNumbered st id index s
@@ -68,40 +74,31 @@ none_so P [] order none = refl
 none_so P (n ∷ ids) order none =
     absurd (none n ((order.each n).0 (contains_from_at (n ∷ ids) n (0, refl))))
 
-pub tells_nothing : TellsNothing
-tells_nothing old new text status meant same told =
-    let st : List Sentence = sentences old in
-    let labels : List (List ℕ) = labels_in st in
-    let others : List (List ℕ) = labels_in (sentences new) in
-    let gone : told.gone ≡ [] =
-    none_so (IsAlone st st) told.gone
-    (subst (λ (ss : List Sentence). AreInOrder (IsAlone st ss) told.gone) (sym same.said)
-    told.changes.are_gone) (never_alone st) in
-    let added : told.added ≡ [] =
-    none_so (IsAlone st st) told.added
-    (subst (λ (ss : List Sentence). AreInOrder (IsAlone ss st) told.added) (sym same.said)
-    told.changes.are_added) (never_alone st) in
-    let changed : told.changed ≡ [] =
-    none_so (IsChanged st st) told.changed
-    (subst (λ (ss : List Sentence). AreInOrder (IsChanged ss st) told.changed) (sym same.said)
-    told.changes.are_changed) (λ n. never_changed st n meant) in
-    let reproved : told.reproved ≡ [] =
-    none_so (IsReproved new old) told.reproved told.changes.are_reproved
-    (λ n. never_reproved old new n meant same) in (
-      told.said
-          ∙ ap (λ (g : List ℕ). changes_text labels others g told.added told.changed told.reproved)
-          gone
-          ∙ ap (λ (a : List ℕ). changes_text labels others [] a told.changed told.reproved) added
-          ∙ ap (λ (c : List ℕ). changes_text labels others [] [] c told.reproved) changed
-          ∙ ap (λ (r : List ℕ). changes_text labels others [] [] [] r) reproved,
-      told.ends
-          ∙ ap (λ (g : List ℕ). changes_status g told.added told.changed told.reproved) gone
-          ∙ ap (λ (a : List ℕ). changes_status [] a told.changed told.reproved) added
-          ∙ ap (λ (c : List ℕ). changes_status [] [] c told.reproved) changed
-          ∙ ap (λ (r : List ℕ). changes_status [] [] [] r) reproved,
-    )
+never_renamed : (st : List Sentence) (pairs : List (ℕ × ℕ)) → AreRenamed st st pairs → pairs ≡ []
+never_renamed st [] are = refl
+never_renamed st (p ∷ pairs) are = absurd (never_alone st p.1 are.each.0.0.0)
 
--- ---- other databases with the same statements and trees
+-- one place before and now
+one_place : (st : List Sentence) (id was is : ℕ) → AllMeant st → HasPlaces st st id was is
+    → was ≡ is
+one_place st id was is meant
+    ((own, order, there), label, named, former, named_too, (own_too, order_too, there_too)) =
+    let same : own_too ≡ own = in_order_once (IsShared st st) own_too own order_too order in
+    let one : former ≡ id = one_number st label former id meant named_too named in
+    one_index own was is id order.rising
+    (subst (λ (ids : List ℕ). slice_get ids was ≡ Some id) same
+    (subst (λ (k : ℕ). slice_get own_too was ≡ Some k) one there_too)) there
+
+never_turned : (was is other_was other_is : ℕ) → was ≡ is → other_was ≡ other_is
+    → ¬ (HaveTurned was is other_was other_is)
+never_turned was is other_was other_is same same_too (inl turned) = omega arith
+never_turned was is other_was other_is same same_too (inr turned) = omega arith
+
+never_moved : (st : List Sentence) (id : ℕ) → AllMeant st → ¬ (IsMoved st st id)
+never_moved st id meant moved =
+    never_turned moved.was moved.is moved.other_was moved.other_is
+    (one_place st id moved.was moved.is meant moved.places)
+    (one_place st moved.other moved.other_was moved.other_is meant moved.other_places) moved.turned
 
 flipped : (statements others : List PlainStatement) → HaveSameTrees statements others
     → HaveSameTrees others statements
@@ -109,6 +106,59 @@ flipped statements others same = record {
   said = sym same.said;
   trees = λ id index t. ((same.trees id index t).1, (same.trees id index t).0);
 }
+
+-- ---- the law
+
+-- changes of which there is none
+abbrev made : (gone added changed reproved : List ℕ) (renamed : List (ℕ × ℕ)) (moved : List ℕ)
+    → PlainChanges
+made gone added changed reproved renamed moved = record {
+  gone = gone;
+  added = added;
+  changed = changed;
+  reproved = reproved;
+  renamed = renamed;
+  moved = moved;
+}
+
+none_of_each : (c : PlainChanges) → c.gone ≡ [] → c.added ≡ [] → c.changed ≡ [] → c.reproved ≡ []
+    → c.renamed ≡ [] → c.moved ≡ [] → c ≡ no_changes
+none_of_each c gone added changed reproved renamed moved =
+    ap (λ (l : List ℕ). made l c.added c.changed c.reproved c.renamed c.moved) gone
+    ∙ ap (λ (l : List ℕ). made [] l c.changed c.reproved c.renamed c.moved) added
+    ∙ ap (λ (l : List ℕ). made [] [] l c.reproved c.renamed c.moved) changed
+    ∙ ap (λ (l : List ℕ). made [] [] [] l c.renamed c.moved) reproved
+    ∙ ap (λ (l : List (ℕ × ℕ)). made [] [] [] [] l c.moved) renamed
+    ∙ ap (λ (l : List ℕ). made [] [] [] [] [] l) moved
+
+pub tells_nothing : TellsNothing
+tells_nothing old new text status meant same told =
+    let st : List Sentence = sentences old in
+    let c : PlainChanges = told.changes in
+    let nothing : c ≡ no_changes =
+    none_of_each c
+    (none_so (IsMissing st st) c.gone
+    (subst (λ (ss : List Sentence). AreInOrder (IsMissing st ss) c.gone) (sym same.said)
+    told.are.are_gone) (λ n missing. never_alone st n missing.0))
+    (none_so (IsMissing st st) c.added
+    (subst (λ (ss : List Sentence). AreInOrder (IsMissing ss st) c.added) (sym same.said)
+    told.are.are_added) (λ n missing. never_alone st n missing.0))
+    (none_so (IsChanged st st) c.changed
+    (subst (λ (ss : List Sentence). AreInOrder (IsChanged ss st) c.changed) (sym same.said)
+    told.are.are_changed) (λ n. never_changed st n meant))
+    (none_so (IsReproved new old) c.reproved told.are.are_reproved
+    (λ n. never_reproved old new n meant same))
+    (never_renamed st c.renamed
+    (subst (λ (ss : List Sentence). AreRenamed st ss c.renamed) (sym same.said)
+    told.are.are_renamed))
+    (none_so (IsMoved st st) c.moved
+    (subst (λ (ss : List Sentence). AreInOrder (IsMoved st ss) c.moved) (sym same.said)
+    told.are.are_moved) (λ n. never_moved st n meant)) in (
+      told.said ∙ ap (changes_text (labels_in st) (labels_in (sentences new))) nothing,
+      told.ends ∙ ap changes_status nothing,
+    )
+
+-- ---- other databases with the same statements and trees
 
 reproved_carried : (old olds new news : List PlainStatement) (id : ℕ) → HaveSameTrees old olds
     → HaveSameTrees new news → IsReproved new old id → IsReproved news olds id
@@ -127,24 +177,23 @@ pub tells_carried : (old olds new news : List PlainStatement) (text : List ℕ) 
     → HaveSameTrees old olds → HaveSameTrees new news → TellsChanges old new text status
     → TellsChanges olds news text status
 tells_carried old olds new news text status before after told = record {
-  gone = told.gone;
-  added = told.added;
-  changed = told.changed;
-  reproved = told.reproved;
-  changes = record {
-    are_gone = rw (before.said, after.said) at told.changes.are_gone;
-    are_added = rw (before.said, after.said) at told.changes.are_added;
-    are_changed = rw (before.said, after.said) at told.changes.are_changed;
+  changes = told.changes;
+  are = record {
+    are_gone = rw (before.said, after.said) at told.are.are_gone;
+    are_added = rw (before.said, after.said) at told.are.are_added;
+    are_changed = rw (before.said, after.said) at told.are.are_changed;
     are_reproved = record {
-      rising = told.changes.are_reproved.rising;
+      rising = told.are.are_reproved.rising;
       each = λ id. (
         (λ h. reproved_carried old olds new news id before after
-            ((told.changes.are_reproved.each id).0 h)),
-        (λ h. (told.changes.are_reproved.each id).1
+            ((told.are.are_reproved.each id).0 h)),
+        (λ h. (told.are.are_reproved.each id).1
             (reproved_carried olds old news new id (flipped old olds before)
             (flipped new news after) h)),
       );
     };
+    are_renamed = rw (before.said, after.said) at told.are.are_renamed;
+    are_moved = rw (before.said, after.said) at told.are.are_moved;
   };
   said = rw (before.said, after.said) at told.said;
   ends = told.ends;

@@ -21,9 +21,11 @@ use Rattle.mm_rules.specs.Verdict.{HasVerdict, Load, Refused, sentences}
 use Rattle.mm_verdict.specs.Reply.{Tells, status_of}
 use Rattle.mm_verdict.proofs.Verdicts.AcceptedStatements.{KeptWell, read_statements}
 use Rattle.mm_diff.specs.declared.database.Database.{Database}
-use Rattle.mm_diff.specs.Diff.{IsAlone, IsChanged, changes_status, changes_text}
+use Rattle.mm_diff.specs.Diff.{AreRenamed, IsAssertionNamed, IsChanged, IsMissing, IsMoved}
+use Rattle.mm_diff.specs.Diff.{IsRenamed, PlainChanges, changes_status, changes_text}
 use Rattle.mm_diff.specs.Reply.{AreRefused, HaveYes, IsRefusal, IsReplyBeside, IsDiffReply}
 use Rattle.mm_diff.specs.Mirror.Databases.{AreChangesIn, AreReproved, TellsChangesIn}
+use Rattle.mm_diff.specs.Mirror.Changes.{AreWithin}
 use Rattle.mm_diff.specs.Mirror.Outcomes.{IsOfFiles}
 
 -- ---- files that don't get yes
@@ -129,38 +131,96 @@ reproved_within c d ids well well_too are =
     subst (λ (k : ℕ). n < k) (count_labelled (λ (u : Sentence). u.label) st)
     (numbered_within st n named.0 named.1 named.2)))
 
+-- numbers of assertions are those of labels
+named_within : (c : Conclusion) (P : ℕ → Type 0) (ids : List ℕ) → AreInOrder P ids
+    → ((n : ℕ) → P n → (label : List ℕ) × IsAssertionNamed c.sentences label n)
+    → AllByRecursion (λ n. n < length (labels_in c.sentences)) ids
+named_within c P ids order asserts =
+    all_within (λ n. n < length (labels_in c.sentences)) ids (λ n h.
+    let (label, named) = asserts n ((order.each n).0 h) in
+    let (index, s, numbered, stands, is) = named in
+    subst (λ (k : ℕ). n < k) (count_labelled (λ (u : Sentence). u.label) c.sentences)
+    (numbered_within c.sentences n index s numbered))
+
+-- what holds of each of a list holds of it otherwise
+all_weaker : {X : Type 0} (P Q : X → Type 0) (xs : List X) → ((x : X) → P x → Q x)
+    → AllByRecursion P xs → AllByRecursion Q xs
+all_weaker P Q [] weaker all = tt
+all_weaker P Q (x ∷ xs) weaker all = (weaker x all.0, all_weaker P Q xs weaker all.1)
+
+-- so are those of pairs
+renamed_within : (c d : Conclusion) (pairs : List (ℕ × ℕ))
+    → AreRenamed c.sentences d.sentences pairs
+    → AllByRecursion (λ p. (p.0 < length (labels_in c.sentences))
+    × (p.1 < length (labels_in d.sentences))) pairs
+renamed_within c d pairs are =
+    all_weaker (λ p. IsRenamed c.sentences d.sentences p.0 p.1)
+    (λ p. (p.0 < length (labels_in c.sentences)) × (p.1 < length (labels_in d.sentences))) pairs
+    (λ p both.
+    let (label, (index, s, numbered, named, asserts), alone) = both.1.0 in
+    let (name, (place, t, at, stands, is), lonely) = both.0.0 in (
+      subst (λ (k : ℕ). p.0 < k) (count_labelled (λ (u : Sentence). u.label) c.sentences)
+          (numbered_within c.sentences p.0 index s numbered),
+      subst (λ (k : ℕ). p.1 < k) (count_labelled (λ (u : Sentence). u.label) d.sentences)
+          (numbered_within d.sentences p.1 place t at),
+    )) are.each
+
+-- what is known of changes by what is kept of two databases
+pub record AreKeptChanges (c d : Conclusion) (changes : PlainChanges) : Type 0 where
+  pub are_gone : AreInOrder (IsMissing c.sentences d.sentences) changes.gone
+  pub are_added : AreInOrder (IsMissing d.sentences c.sentences) changes.added
+  pub are_changed : AreInOrder (IsChanged d.sentences c.sentences) changes.changed
+  pub are_reproved : AreReproved d c changes.reproved
+  pub are_renamed : AreRenamed c.sentences d.sentences changes.renamed
+  pub are_moved : AreInOrder (IsMoved c.sentences d.sentences) changes.moved
+
 -- all changes
-pub changes_told : (c d : Conclusion) (gone added changed reproved : List ℕ) → KeptWell c
-    → KeptWell d → AreInOrder (IsAlone c.sentences d.sentences) gone
-    → AreInOrder (IsAlone d.sentences c.sentences) added
-    → AreInOrder (IsChanged d.sentences c.sentences) changed → AreReproved d c reproved
-    → AreChangesIn c d gone added changed reproved
-changes_told c d gone added changed reproved well well_too are_gone are_added are_changed
-    are_reproved before after reads reads_too =
+pub changes_told : (c d : Conclusion) (changes : PlainChanges) → KeptWell c → KeptWell d
+    → AreKeptChanges c d changes → AreChangesIn c d changes
+changes_told c d changes well well_too kept before after reads reads_too =
     let here = (read_statements c before well.origin reads).kept.sentences in
     let there = (read_statements d after well_too.origin reads_too).kept.sentences in
     record {
-      are_gone = rw (here, there) at are_gone;
-      are_added = rw (here, there) at are_added;
-      are_changed = rw (here, there) at are_changed;
-      are_reproved = are_reproved after before reads_too reads;
+      are_gone = rw (here, there) at kept.are_gone;
+      are_added = rw (here, there) at kept.are_added;
+      are_changed = rw (here, there) at kept.are_changed;
+      are_reproved = kept.are_reproved after before reads_too reads;
+      are_renamed = rw (here, there) at kept.are_renamed;
+      are_moved = rw (here, there) at kept.are_moved;
     }
 
+-- their numbers are those of labels
+pub changes_within : (c d : Conclusion) (changes : PlainChanges) → KeptWell c → KeptWell d
+    → AreKeptChanges c d changes
+    → AreWithin (labels_in c.sentences) (labels_in d.sentences) changes
+changes_within c d changes well well_too kept = record {
+  gone =
+      named_within c (IsMissing c.sentences d.sentences) changes.gone kept.are_gone
+      (λ n missing. (missing.0.0, missing.0.1));
+  added =
+      named_within d (IsMissing d.sentences c.sentences) changes.added kept.are_added
+      (λ n missing. (missing.0.0, missing.0.1));
+  changed =
+      named_within d (IsChanged d.sentences c.sentences) changes.changed kept.are_changed
+      (λ n (label, named, m, there, apart). (label, named));
+  reproved = reproved_within d c changes.reproved well_too well kept.are_reproved;
+  renamed = renamed_within c d changes.renamed kept.are_renamed;
+  moved =
+      named_within d (IsMoved c.sentences d.sentences) changes.moved kept.are_moved
+      (λ n moved. let (place, label, named, former, there, was) = moved.places in (label, named));
+}
+
 -- the text and the status of them
-pub reply_told : (c d : Conclusion) (gone added changed reproved text : List ℕ) (status : ℕ)
-    → KeptWell c → KeptWell d → AreChangesIn c d gone added changed reproved
-    → text ≡ changes_text (labels_in c.sentences) (labels_in d.sentences) gone added changed reproved
-    → status ≡ changes_status gone added changed reproved → TellsChangesIn c d text status
-reply_told c d gone added changed reproved text status well well_too changes said ends before after
-    reads reads_too =
+pub reply_told : (c d : Conclusion) (changes : PlainChanges) (text : List ℕ) (status : ℕ)
+    → KeptWell c → KeptWell d → AreChangesIn c d changes
+    → text ≡ changes_text (labels_in c.sentences) (labels_in d.sentences) changes
+    → status ≡ changes_status changes → TellsChangesIn c d text status
+reply_told c d changes text status well well_too are said ends before after reads reads_too =
     let here = (read_statements c before well.origin reads).kept.sentences in
     let there = (read_statements d after well_too.origin reads_too).kept.sentences in
     record {
-      gone = gone;
-      added = added;
-      changed = changed;
-      reproved = reproved;
-      changes = changes before after reads reads_too;
+      changes = changes;
+      are = are before after reads reads_too;
       said = rw (here, there) at said;
       ends = ends;
     }

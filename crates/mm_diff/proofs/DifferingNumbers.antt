@@ -19,8 +19,8 @@ use Rattle.mm_frame.proofs.Names.LabelNumbers.{numbered_get, numbered_some, numb
 use Rattle.mm_frame.proofs.Names.LabelNumbers.{numbered_within}
 use Rattle.mm_frame.proofs.Rules.ObeyedRules.{one_label}
 use Rattle.mm_diff.specs.declared.differences.Difference.{Difference}
-use Rattle.mm_diff.specs.declared.differences.Difference.TheVariants.{Alone, Changed}
-use Rattle.mm_diff.specs.Diff.{IsAssertionNamed, IsAlone, IsChanged, AreAlike}
+use Rattle.mm_diff.specs.declared.differences.Difference.TheVariants.{Alone, Changed, Shared}
+use Rattle.mm_diff.specs.Diff.{IsAssertionNamed, IsAlone, IsChanged, IsShared, AreAlike}
 use Rattle.mm_diff.specs.Mirror.Differences.{Differs}
 
 -- ---- labels
@@ -97,6 +97,12 @@ module _ (st others : List Sentence) (id : ℕ) (label : List ℕ)
       none n (subst (λ (l : List ℕ). IsAssertionNamed others l n)
       (one_name_of st label name id here named) there)
 
+  -- so it isn't shared where it is that of none
+  pub not_shared : ((n : ℕ) → ¬ (IsAssertionNamed others label n)) → ¬ (IsShared st others id)
+  not_shared none (name, named, n, there) =
+      none n (subst (λ (l : List ℕ). IsAssertionNamed others l n)
+      (one_name_of st name label id named here) there)
+
   pub changed_where : AllMeant others → (n : ℕ) → IsAssertionNamed others label n → (b : Bool)
       → (b ≡ true) ↔ AreAlike st others id n → (not b ≡ true) ↔ IsChanged st others id
   changed_where meant n there b alike = (
@@ -121,12 +127,19 @@ pub differs_changed : (d : Difference) (st others : List Sentence) (id : ℕ) (b
 differs_changed d st others id b is h =
     subst (λ (e : Difference). (b ≡ true) ↔ Differs e st others id) (sym is) h
 
+pub differs_shared : (d : Difference) (st others : List Sentence) (id : ℕ) (b : Bool)
+    → d ≡ Shared → (b ≡ true) ↔ IsShared st others id → (b ≡ true) ↔ Differs d st others id
+differs_shared d st others id b is h =
+    subst (λ (e : Difference). (b ≡ true) ↔ Differs e st others id) (sym is) h
+
 -- what differs is an assertion
 pub differing_asserts : (d : Difference) (st others : List Sentence) (id : ℕ)
     → Differs d st others id → IsAssertionNumber st id
 differing_asserts Alone st others id (label, (index, s, numbered, named, asserts), none) =
     (index, s, numbered, asserts)
 differing_asserts Changed st others id (label, here, n, there, apart) =
+    (here.0, here.1, here.2, here.4)
+differing_asserts Shared st others id (label, here, n, there) =
     (here.0, here.1, here.2, here.4)
 
 -- a hypothesis doesn't differ

@@ -9,6 +9,8 @@ pub mod SharedTrees
 pub mod KeptWidths
 pub mod ProofWords
 pub mod CheckedTheorems
+pub mod RenamedLabels
+pub mod MovedPlaces
 pub mod DiffLines
 pub mod DiffReplies
 pub mod DiffLaws

@@ -5,7 +5,7 @@ use Rattle.mm_frame.specs.Rules.{AllMeant}
 use Rattle.mm_step.specs.Tree.{Trees}
 use Rattle.mm_rules.specs.Rests.{HasTree}
 use Rattle.mm_rules.specs.Verdict.{sentences}
-use Rattle.mm_diff.specs.Diff.{TellsChanges, sums_line}
+use Rattle.mm_diff.specs.Diff.{TellsChanges, no_changes, sums_line}
 
 -- The statements of two databases say the same, one after the other, and the same ones have
 -- complete proofs, which spell the same trees.
@@ -20,4 +20,4 @@ abbrev pub TellsNothing : Type 0
 TellsNothing =
     (old new : List PlainStatement) (text : List ℕ) (status : ℕ) → AllMeant (sentences old)
     → HaveSameTrees old new → TellsChanges old new text status
-    → (text ≡ sums_line 0 0 0 0) × (status ≡ 0)
+    → (text ≡ sums_line no_changes) × (status ≡ 0)

@@ -7,3 +7,4 @@ pub mod Homes
 pub mod Steps
 pub mod Databases
 pub mod Outcomes
+pub mod Changes

@@ -11,13 +11,15 @@ use crate::alike::are_alike;
 use mm_frame::{Book, Found, LabelId, LabelKind};
 use std::alloc::{AllocError, Global};
 
-/// How an assertion differs from those of another database.
+/// How an assertion stands to those of another database.
 #[derive(Clone, Copy)]
 pub(crate) enum Difference {
     /// No assertion there has its label.
     Alone,
     /// The one that has its label doesn't say the same.
     Changed,
+    /// One has its label.
+    Shared,
 }
 
 /// The number of the assertion with a label.
@@ -33,7 +35,7 @@ pub(crate) fn assertion_named(book: &Book, label: &[u8]) -> Option<LabelId>
     }
 }
 
-/// Whether an assertion differs so from those of another database.
+/// Whether an assertion stands so to those of another database.
 fn assertion_differs(difference: Difference, book: &Book, other: &Book, id: LabelId) -> bool
     requires { IsAssertionNumber book.now.statements id.0 }
     ensures { IsTrue result
@@ -43,15 +45,17 @@ fn assertion_differs(difference: Difference, book: &Book, other: &Book, id: Labe
         Some(named) => match difference {
             Difference::Alone => false,
             Difference::Changed => !are_alike(book, id, other, named),
+            Difference::Shared => true,
         },
         None => match difference {
             Difference::Alone => true,
             Difference::Changed => false,
+            Difference::Shared => false,
         },
     }
 }
 
-/// Whether a labelled statement is an assertion that differs so from those of another database.
+/// Whether a labelled statement is an assertion that stands so to those of another database.
 fn differs(difference: Difference, book: &Book, other: &Book, id: LabelId) -> bool
     requires { IsLabelNumber book.now.statements id.0 }
     ensures { IsTrue result
@@ -65,7 +69,7 @@ fn differs(difference: Difference, book: &Book, other: &Book, id: LabelId) -> bo
     }
 }
 
-/// The numbers of the assertions that differ so from those of another database, in their order.
+/// The numbers of the assertions that stand so to those of another database, in their order.
 pub(crate) fn those_that_differ(
     alloc: Global,
     difference: Difference,

@@ -1,30 +1,23 @@
 //! The reply to `mm diff`.
 
-ghost use Rattle.std.specs.Prelude.{◌≡◌, ◌<◌, List, [], map, length, None, IfOk, Ok};
-ghost use Rattle.std.specs.List.{AllByRecursion};
+ghost use Rattle.std.specs.Prelude.{◌≡◌, ◌↔◌, ◌+◌, List, [], map, length, None, IfOk, IsTrue, Ok};
 ghost use Rattle.mm_base.specs.Statement.{PlainStatement};
 ghost use Rattle.mm_text.specs.Files.{plain_file};
 ghost use Rattle.mm_text.specs.Reading.{Reads};
-ghost use Rattle.mm_frame.specs.Numbers.{labelled_sentences};
 ghost use Rattle.mm_rules.specs.Answer.{IsVerdict, KeepsFiles, KeepsUses};
-ghost use Rattle.mm_rules.specs.Conclusion.{labels_in};
-ghost use Rattle.mm_rules.specs.Rests.{AreInOrder};
 ghost use Rattle.mm_rules.specs.Status.{number_of};
 ghost use Rattle.mm_step.specs.declared.profile.Profile.{Profile};
-ghost use Rattle.mm_diff.specs.Diff.{changes_text as changes_text_of};
-ghost use Rattle.mm_diff.specs.Diff.{changes_status as changes_status_of};
+ghost use Rattle.mm_diff.specs.Diff.{changes_status as changes_status_of, total};
 ghost use Rattle.mm_diff.specs.Reply.{IsDiffReply, IsReplyBeside};
-ghost use Rattle.mm_diff.specs.Mirror.Databases.{AreChangesIn, IsComplete, TellsChangesIn};
-ghost use Rattle.mm_diff.specs.Mirror.Differences.{Differs};
+ghost use Rattle.mm_diff.specs.Mirror.Changes.{plain_changes};
+ghost use Rattle.mm_diff.specs.Mirror.Databases.{IsComplete, TellsChangesIn};
 ghost use Rattle.mm_diff.specs.Mirror.Outcomes.{IsOutcome};
 
+use crate::changes::{Changes, changes_between};
 use crate::database::Database;
-use crate::differences::{Difference, those_that_differ};
 use crate::homes::{Home, homes_of};
-use crate::reproved::those_reproved;
-use crate::text::{push_letter_lines, push_sums};
+use crate::text::changes_text;
 use mm_base::{File, Seed};
-use mm_frame::{Book, LabelId};
 use mm_rules::Status;
 use mm_step::Profile;
 use mm_verdict::{Checked, Reply, accepted_reply, check_with, fault_reply};
@@ -39,121 +32,35 @@ enum Outcome<'a> {
     Refused(Reply),
 }
 
-/// What changed, by the numbers of assertions.
-#[derive(Drop)]
-struct Changes {
-    /// In the old database, those that are gone.
-    gone: Vec<LabelId>,
-    /// In the new one, those that were added.
-    added: Vec<LabelId>,
-    /// In the new one, those that are changed.
-    changed: Vec<LabelId>,
-    /// In the new one, those that are reproved.
-    reproved: Vec<LabelId>,
+/// Whether no label and no proof changed.
+fn are_named_alike(changes: &Changes) -> bool
+    ensures { IsTrue result ↔ (length changes.now.gone.items + length changes.now.added.items
+        + length changes.now.changed.items + length changes.now.reproved.items
+        + length changes.now.renamed.items ≡ 0) }
+{
+    changes.gone.is_empty()
+        && changes.added.is_empty()
+        && changes.changed.is_empty()
+        && changes.reproved.is_empty()
+        && changes.renamed.is_empty()
 }
 
-/// The assertions of a database that differ so from those of another one, in their order.
-fn differing(
-    alloc: Global,
-    difference: Difference,
-    book: &Book,
-    other: &Book,
-) -> Result<Vec<LabelId>, AllocError>
-    requires { length (labelled_sentences book.now.statements) < 4294967295 }
-    ensures order { IfOk result (λ ids. AreInOrder
-        (Differs difference book.now.statements other.now.statements)
-        (map (λ l. l.0) ids.items)) }
-    ensures in_range { IfOk result (λ ids.
-        AllByRecursion (λ n. n < length (labels_in book.now.statements))
-        (map (λ l. l.0) ids.items)) }
+/// Whether nothing changed.
+fn are_none(changes: &Changes) -> bool
+    ensures { IsTrue result ↔ (total (plain_changes changes.now) ≡ 0) }
 {
-    those_that_differ(alloc, difference, book, other)
-}
-
-/// What changed from the old database to the new one.
-fn changes_between(
-    alloc: Global,
-    old: &Checked,
-    old_homes: &[Home],
-    new: &Checked,
-    new_homes: &[Home],
-) -> Result<Changes, AllocError>
-    requires old { IsComplete old.now old_homes.now }
-    requires new { IsComplete new.now new_homes.now }
-    ensures changes { IfOk result (λ changes. AreChangesIn old.now new.now
-        (map (λ l. l.0) changes.gone.items) (map (λ l. l.0) changes.added.items)
-        (map (λ l. l.0) changes.changed.items) (map (λ l. l.0) changes.reproved.items)) }
-    ensures gone { IfOk result (λ changes.
-        AllByRecursion (λ n. n < length (labels_in old.now.sentences))
-        (map (λ l. l.0) changes.gone.items)) }
-    ensures added { IfOk result (λ changes.
-        AllByRecursion (λ n. n < length (labels_in new.now.sentences))
-        (map (λ l. l.0) changes.added.items)) }
-    ensures changed { IfOk result (λ changes.
-        AllByRecursion (λ n. n < length (labels_in new.now.sentences))
-        (map (λ l. l.0) changes.changed.items)) }
-    ensures reproved { IfOk result (λ changes.
-        AllByRecursion (λ n. n < length (labels_in new.now.sentences))
-        (map (λ l. l.0) changes.reproved.items)) }
-{
-    let gone = differing(alloc, Difference::Alone, &old.book, &new.book)?;
-    let added = differing(alloc, Difference::Alone, &new.book, &old.book)?;
-    let changed = differing(alloc, Difference::Changed, &new.book, &old.book)?;
-    let reproved = those_reproved(alloc, new, new_homes, old, old_homes)?;
-    Ok(Changes {
-        gone,
-        added,
-        changed,
-        reproved,
-    })
-}
-
-/// What is told of what changed.
-fn changes_text(
-    alloc: Global,
-    old: &Book,
-    new: &Book,
-    changes: &Changes,
-) -> Result<Vec<u8>, AllocError>
-    requires gone { AllByRecursion (λ n. n < length (labels_in old.now.statements))
-        (map (λ l. l.0) changes.now.gone.items) }
-    requires added { AllByRecursion (λ n. n < length (labels_in new.now.statements))
-        (map (λ l. l.0) changes.now.added.items) }
-    requires changed { AllByRecursion (λ n. n < length (labels_in new.now.statements))
-        (map (λ l. l.0) changes.now.changed.items) }
-    requires reproved { AllByRecursion (λ n. n < length (labels_in new.now.statements))
-        (map (λ l. l.0) changes.now.reproved.items) }
-    ensures { IfOk result (λ text. text.items
-        ≡ changes_text_of (labels_in old.now.statements) (labels_in new.now.statements)
-        (map (λ l. l.0) changes.now.gone.items) (map (λ l. l.0) changes.now.added.items)
-        (map (λ l. l.0) changes.now.changed.items) (map (λ l. l.0) changes.now.reproved.items)) }
-{
-    let mut out = Vec::new(alloc);
-    push_letter_lines(&mut out, old, b"G", &changes.gone)?;
-    push_letter_lines(&mut out, new, b"A", &changes.added)?;
-    push_letter_lines(&mut out, new, b"C", &changes.changed)?;
-    push_letter_lines(&mut out, new, b"P", &changes.reproved)?;
-    push_sums(
-        &mut out,
-        changes.gone.len(),
-        changes.added.len(),
-        changes.changed.len(),
-        changes.reproved.len(),
-    )?;
-    Ok(out)
+    if are_named_alike(changes) {
+        changes.moved.is_empty()
+    } else {
+        false
+    }
 }
 
 /// The status: whether anything changed.
 fn changes_status(changes: &Changes) -> Status
-    ensures { number_of result ≡ changes_status_of (map (λ l. l.0) changes.now.gone.items)
-        (map (λ l. l.0) changes.now.added.items) (map (λ l. l.0) changes.now.changed.items)
-        (map (λ l. l.0) changes.now.reproved.items) }
+    ensures { number_of result ≡ changes_status_of (plain_changes changes.now) }
 {
-    if changes.gone.is_empty()
-        && changes.added.is_empty()
-        && changes.changed.is_empty()
-        && changes.reproved.is_empty()
-    {
+    if are_none(changes) {
         Status::Done
     } else {
         Status::Refused
@@ -261,14 +168,18 @@ fn reply_beside(
 
 /// The reply that tells what changed from the old files to the new ones, both of which are checked
 /// first: a line `G LABEL` for each assertion that is gone, in the order of the old database, then
-/// `A LABEL` for each that was added, `C LABEL` for each that says something else and `P LABEL` for
-/// each that says the same, but whose proof spells another tree, in the order of the new one, and a
-/// line with the sums. The status is 0 where nothing changed, else 1.
+/// `A LABEL` for each that was added, `C LABEL` for each that says something else, `P LABEL` for
+/// each that says the same, but whose proof spells another tree, `R OLD NEW` for each that is
+/// renamed and `M LABEL` for each that was moved, in the order of the new one, and a line with the
+/// sums. The status is 0 where nothing changed, else 1.
 ///
 /// An assertion says something else where its kind or expression is another, an expression or the
 /// kind of a mandatory hypothesis, or a mandatory distinct pair. Labels of hypotheses don't count.
-/// Trees are compared by the labels of their steps. Where the old files don't get yes, the reply is
-/// that of `check` for them; where the new ones don't, for those.
+/// Trees are compared by the labels of their steps. One that is gone and one that was added are told
+/// as renamed where each alone says the same as the other. One was moved
+/// where its order against another is turned that is no further from its place, among those whose
+/// labels both have. Where the old files don't get yes, the reply is that of `check` for them; where
+/// the new ones don't, for those.
 pub fn diff_reply(
     alloc: Global,
     seed: Seed,

@@ -47,7 +47,7 @@ fn spell_one_tree(
 }
 
 /// Whether a labelled statement is a theorem.
-fn is_theorem(book: &Book, id: LabelId) -> bool
+pub(crate) fn is_theorem(book: &Book, id: LabelId) -> bool
     requires { IsLabelNumber book.now.statements id.0 }
     ensures { IsTrue result ↔ IsTheorem book.now.statements id.0 }
 {

@@ -1,14 +1,18 @@
 //! The lines that tell what changed.
 
-ghost use Rattle.std.specs.Prelude.{◌≡◌, ◌<◌, ◌++◌, ◌∷◌, [], map, length, slice_get, OnOk, Some};
+ghost use Rattle.std.specs.Prelude.{◌≡◌, ◌<◌, ◌++◌, ◌∷◌, [], map, length, slice_get, IfOk, OnOk, Some};
 ghost use Rattle.std.specs.List.{AllByRecursion};
 ghost use Rattle.mm_rules.specs.Answer.{labels_at};
 ghost use Rattle.mm_rules.specs.Conclusion.{labels_in};
-ghost use Rattle.mm_diff.specs.Diff.{letter_lines, sums_line};
+ghost use Rattle.mm_diff.specs.Diff.{changes_text as changes_text_of, letter_lines};
+ghost use Rattle.mm_diff.specs.Diff.{renamed_lines, sums_line};
+ghost use Rattle.mm_diff.specs.Mirror.Changes.{AreWithin, plain_changes, plain_renaming, sum_words};
 
+use crate::changes::Changes;
+use crate::renamed::Renaming;
 use mm_frame::{Book, LabelId};
 use mm_rules::{push_number, push_word};
-use std::alloc::AllocError;
+use std::alloc::{AllocError, Global};
 
 /// The label with this number.
 fn name_of<'a>(book: &Book<'a>, number: LabelId) -> &'a [u8]
@@ -37,7 +41,7 @@ fn push_lettered(
 
 /// A line for the label of each of these numbers, a letter before it.
 #[tactic(auto, using(crate::proofs::DiffLines::one_more_line))]
-pub(crate) fn push_letter_lines(
+fn push_letter_lines(
     out: &mut Vec<u8>,
     book: &Book,
     letter: &[u8],
@@ -54,26 +58,91 @@ pub(crate) fn push_letter_lines(
     Ok(())
 }
 
-/// The line with the sums.
-pub(crate) fn push_sums(
+/// The line of an assertion that is renamed, with both labels.
+fn push_renaming(
     out: &mut Vec<u8>,
-    gone: usize,
-    added: usize,
-    changed: usize,
-    reproved: usize,
+    old: &Book,
+    new: &Book,
+    renaming: Renaming,
 ) -> Result<(), AllocError>
-    ensures { OnOk result (out.new.items
-        ≡ out.old.items ++ sums_line gone added changed reproved) }
+    requires old { renaming.other.0 < length (labels_in old.now.statements) }
+    requires new { renaming.id.0 < length (labels_in new.now.statements) }
+    ensures { OnOk result (out.new.items ≡ out.old.items
+        ++ renamed_lines (labels_in old.now.statements) (labels_in new.now.statements)
+        (plain_renaming renaming ∷ [])) }
 {
-    out.extend_from_slice(b"differ")?;
-    push_number(out, gone)?;
-    push_word(out, b"gone")?;
-    push_number(out, added)?;
-    push_word(out, b"added")?;
-    push_number(out, changed)?;
-    push_word(out, b"changed")?;
-    push_number(out, reproved)?;
-    push_word(out, b"reproved")?;
+    out.push(b'R')?;
+    push_word(out, name_of(old, renaming.other))?;
+    push_word(out, name_of(new, renaming.id))?;
     out.push(b'\n')?;
     Ok(())
+}
+
+/// A line for each assertion that is renamed.
+#[tactic(auto, using(crate::proofs::DiffLines::one_more_renamed))]
+fn push_renamed_lines(
+    out: &mut Vec<u8>,
+    old: &Book,
+    new: &Book,
+    renamed: &[Renaming],
+) -> Result<(), AllocError>
+    requires { AllByRecursion (λ p. (p.0 < length (labels_in old.now.statements))
+        × (p.1 < length (labels_in new.now.statements))) (map plain_renaming renamed.now) }
+    ensures { OnOk result (out.new.items ≡ out.old.items
+        ++ renamed_lines (labels_in old.now.statements) (labels_in new.now.statements)
+        (map plain_renaming renamed.now)) }
+{
+    for renaming in renamed {
+        push_renaming(out, old, new, *renaming)?;
+    }
+    Ok(())
+}
+
+/// A number, and a word behind it.
+fn push_sum(out: &mut Vec<u8>, count: usize, word: &[u8]) -> Result<(), AllocError>
+    ensures { OnOk result (out.new.items ≡ out.old.items ++ sum_words count word.now) }
+{
+    push_number(out, count)?;
+    push_word(out, word)?;
+    Ok(())
+}
+
+/// The line with the sums.
+fn push_sums(out: &mut Vec<u8>, changes: &Changes) -> Result<(), AllocError>
+    ensures { OnOk result (out.new.items
+        ≡ out.old.items ++ sums_line (plain_changes changes.now)) }
+{
+    out.extend_from_slice(b"differ")?;
+    push_sum(out, changes.gone.len(), b"gone")?;
+    push_sum(out, changes.added.len(), b"added")?;
+    push_sum(out, changes.changed.len(), b"changed")?;
+    push_sum(out, changes.reproved.len(), b"reproved")?;
+    push_sum(out, changes.renamed.len(), b"renamed")?;
+    push_sum(out, changes.moved.len(), b"moved")?;
+    out.push(b'\n')?;
+    Ok(())
+}
+
+/// What is told of what changed.
+pub(crate) fn changes_text(
+    alloc: Global,
+    old: &Book,
+    new: &Book,
+    changes: &Changes,
+) -> Result<Vec<u8>, AllocError>
+    requires { AreWithin (labels_in old.now.statements) (labels_in new.now.statements)
+        (plain_changes changes.now) }
+    ensures { IfOk result (λ text. text.items
+        ≡ changes_text_of (labels_in old.now.statements) (labels_in new.now.statements)
+        (plain_changes changes.now)) }
+{
+    let mut out = Vec::new(alloc);
+    push_letter_lines(&mut out, old, b"G", &changes.gone)?;
+    push_letter_lines(&mut out, new, b"A", &changes.added)?;
+    push_letter_lines(&mut out, new, b"C", &changes.changed)?;
+    push_letter_lines(&mut out, new, b"P", &changes.reproved)?;
+    push_renamed_lines(&mut out, old, new, &changes.renamed)?;
+    push_letter_lines(&mut out, new, b"M", &changes.moved)?;
+    push_sums(&mut out, changes)?;
+    Ok(out)
 }

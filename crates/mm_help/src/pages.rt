@@ -530,19 +530,25 @@ const DIFF: &str = "Usage: mm diff OLD NEW
 
 Checks two versions of a database, the old one first, and tells by label what
 changed: which axioms and theorems, `$a` and `$p`, are gone, were added, say
-something else, or have another proof. Each version is a file, or several, its
-top file first.
+something else, have another proof, got another label, or were moved. Each
+version is a file, or several, its top file first.
 
 Two say the same if both are axioms or both theorems, and have the same
 expression, the same mandatory hypotheses in the same order, whatever their
 labels, and the same mandatory distinct pairs. Two proofs are the same if they
 make the same tree, whatever their form. Comments don't count.
 
+One that is gone and one that was added are told as renamed where each of them
+alone says the same as the other. One was moved where it passed another that is
+no further from its place than it is itself.
+
 Replies:
   G LABEL, A LABEL, C LABEL or P LABEL, one on each line            status 1
       Gone, in the order of the old version; then added, then changed, and then
       unchanged with another proof, each in the order of the new one.
-  differ N gone N added N changed N reproved                        status 0, 1
+  R OLD NEW or M LABEL, one on each line                            status 1
+      Then renamed, and then moved, in the order of the new version.
+  differ N gone N added N changed N reproved N renamed N moved      status 0, 1
       The last line, with the sums: status 0 where nothing differs.
   no, incomplete, limit or load                                  status 1, 3, 4
       A version doesn't get yes, and this is what `mm check` replies to it: to

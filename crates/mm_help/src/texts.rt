@@ -243,8 +243,10 @@ Replies of mend, on standard output:
 Replies of diff, on standard output:
   G LABEL, A LABEL, C LABEL or P LABEL, one on each line
       The axioms and theorems that are gone, then those that were added, then those that say
-      something else, then those that have another proof. At the end their sums: differ N gone
-      N added N changed N reproved. Status 0 where nothing differs, else 1.
+      something else, then those that have another proof.
+  R OLD NEW or M LABEL, one on each line
+      Then those that are renamed, and those that were moved. At the end the sums: differ N gone
+      N added N changed N reproved N renamed N moved. Status 0 where nothing differs, else 1.
   Where a version doesn't get yes: the reply of check, with its status; the old one comes first.
 
 Other replies to a LABEL: that of check, where it is no, limit or load; and

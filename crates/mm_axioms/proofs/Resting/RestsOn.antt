@@ -211,7 +211,7 @@ among_more xs i x at =
     ap (λ (n : ℕ). ids_in (take n xs)) (add-one i) ∙ ap ids_in (take_next xs i x at) ∙ map-append (λ (l : LabelId). l.0) (take i xs) (x ∷ [])
 
 -- those before an index are less than the one there
-before_less : (xs : List LabelId) (i : ℕ) (x : LabelId) → AreRising (ids_in xs) → slice_get xs i ≡ Some x → (n : ℕ) → Contains (ids_in (take i xs)) n → n < x.0
+pub before_less : (xs : List LabelId) (i : ℕ) (x : LabelId) → AreRising (ids_in xs) → slice_get xs i ≡ Some x → (n : ℕ) → Contains (ids_in (take i xs)) n → n < x.0
 before_less xs i x rising at n h =
     let in_front = rw (← take-map (λ (l : LabelId). l.0) i xs) at h in
     let (k, there) = at_from_contains (take i (ids_in xs)) n in_front in
@@ -274,7 +274,7 @@ rising_once (x ∷ xs) (y ∷ ys) rising other to from =
     (λ n h. later_within y x ys xs n (sym e) other (from n (holds_later y ys n h)) h) in
     cc
 
-in_order_once : (P : ℕ → Type 0) (xs ys : List ℕ) → AreInOrder P xs → AreInOrder P ys → xs ≡ ys
+pub in_order_once : (P : ℕ → Type 0) (xs ys : List ℕ) → AreInOrder P xs → AreInOrder P ys → xs ≡ ys
 in_order_once P xs ys one other =
     rising_once xs ys one.rising other.rising (λ n h. (other.each n).1 ((one.each n).0 h)) (λ n h. (one.each n).1 ((other.each n).0 h))
 

@@ -12,7 +12,8 @@ use Rattle.mm_rules.specs.Rests.{AreInOrder, HasTree, IsAt}
 use Rattle.mm_rules.specs.Verdict.{proof_of, sentences}
 use Rattle.mm_verdict.specs.Mirror.Theorems.{SayStepsOf}
 use Rattle.mm_diff.specs.declared.homes.Home.{Home}
-use Rattle.mm_diff.specs.Diff.{AreAlike, AreChanges, IsAssertionNamed, IsReproved, TellsChanges}
+use Rattle.mm_diff.specs.Diff.{AreAlike, AreChanges, IsAssertionNamed, IsReproved, PlainChanges}
+use Rattle.mm_diff.specs.Diff.{TellsChanges}
 use Rattle.mm_diff.specs.Mirror.Homes.{HaveHomes}
 use Rattle.mm_diff.specs.Mirror.Steps.{NameTheSame}
 
@@ -70,10 +71,10 @@ AreReproved c d ids =
     → Reads d.files others None → AreInOrder (IsReproved statements others) ids
 
 -- what changed from the first database to the second
-abbrev pub AreChangesIn : (c d : Conclusion) → (gone added changed reproved : List ℕ) → Type 0
-AreChangesIn c d gone added changed reproved =
+abbrev pub AreChangesIn : (c d : Conclusion) → PlainChanges → Type 0
+AreChangesIn c d changes =
     (before after : List PlainStatement) → Reads c.files before None → Reads d.files after None
-    → AreChanges before after gone added changed reproved
+    → AreChanges before after changes
 
 -- this is what is told of it
 abbrev pub TellsChangesIn : (c d : Conclusion) → (text : List ℕ) → (status : ℕ) → Type 0

@@ -25,6 +25,12 @@ ${ g $e c $. h $e c $. b $a c $. $}
 th $p c $= ( x a b ) ABZDC $.
 ";
 
+/// The reply where nothing changed.
+const NONE: &[u8] = b"differ 0 gone 0 added 0 changed 0 reproved 0 renamed 0 moved\n";
+
+/// Four axioms, none of which says what another says.
+const FOUR: &[u8] = b"$c p q r s $. a $a p $. b $a q $. d $a r $. e $a s $.\n";
+
 /// Two versions, what is told of them, and the status.
 #[derive(Clone, Copy)]
 struct Version {
@@ -54,20 +60,20 @@ fn tells_versions(rt: HostRuntime) -> Result<(), Fail> {
         Version {
             old: OLD,
             new: OLD,
-            text: b"differ 0 gone 0 added 0 changed 0 reproved\n",
+            text: NONE,
             status: Status::Done,
         },
         // Neither a new label of a hypothesis nor the order of a pair counts, nor a new proof's text.
         Version {
             old: OLD,
             new: b"$c |- wff -> $. $v q p $. wp $f wff p $. vq $f wff q $.
-${ mi $e |- p $. ma $e |- p -> q $. mp $a |- q $. $}
 wi $a wff p -> q $.
+${ mi $e |- p $. ma $e |- p -> q $. mp $a |- q $. $}
 ${ $d q p $. ax1 $a |- p -> q $. $}
 ax2 $a |- p -> p $.
 th1 $p |- p -> p $= ( ax2 ) AB $.
 ",
-            text: b"differ 0 gone 0 added 0 changed 0 reproved\n",
+            text: NONE,
             status: Status::Done,
         },
         // A version that isn't finished isn't compared.
@@ -87,21 +93,21 @@ ${ $d p q $. ax1 $a |- p -> q $. $}
 ax2 $a |- p -> p $.
 th1 $p |- p -> p $= wp ax2 $.
 ",
-            text: b"C wi\nC mp\nC ax1\ndiffer 0 gone 0 added 3 changed 0 reproved\n",
+            text: b"C wi\nC mp\nC ax1\ndiffer 0 gone 0 added 3 changed 0 reproved 0 renamed 0 moved\n",
             status: Status::Refused,
         },
         // One is gone, two are added, and each of the others is changed in another way.
         Version {
             old: OLD,
             new: b"$c -> wff |- $. $v p q $. wp $f wff p $. wq $f wff q $.
-wj $a wff p -> q $.
+wj $a wff q -> p $.
 ${ min $e |- q $. maj $e |- p -> q $. mp $a |- q $. $}
 ax1 $a |- p -> q $.
 ax2 $a |- q -> q $.
 th1 $a |- p -> p $.
 th2 $p |- q -> q $= wq ax2 $.
 ",
-            text: b"G wi\nA wj\nA th2\nC mp\nC ax1\nC ax2\nC th1\ndiffer 1 gone 2 added 4 changed 0 reproved\n",
+            text: b"G wi\nA wj\nA th2\nC mp\nC ax1\nC ax2\nC th1\ndiffer 1 gone 2 added 4 changed 0 reproved 0 renamed 0 moved\n",
             status: Status::Refused,
         },
         Version {
@@ -130,17 +136,17 @@ ${ $d p q $. ax1 $a |- p -> q $. $}
 ax2 $a |- p -> p $. ax3 $a |- p -> p $.
 th1 $p |- p -> p $= vp ax3 $.
 ",
-            text: b"A ax3\nP th1\ndiffer 0 gone 1 added 0 changed 1 reproved\n",
+            text: b"A ax3\nP th1\ndiffer 0 gone 1 added 0 changed 1 reproved 0 renamed 0 moved\n",
             status: Status::Refused,
         },
         // Neither form nor sharing counts, nor comments in a proof, nor numbers of labels.
         Version {
             old: SHARED,
-            new: b"$c c $. ${ f $e c $. a $a c $. $} x $a c $.
+            new: b"$c c $. ${ z $e c $. $} x $a c $. ${ f $e c $. a $a c $. $}
 ${ g $e c $. h $e c $. b $a c $. $}
 th $p c $= x $( a $) a x a b $.
 ",
-            text: b"differ 0 gone 0 added 0 changed 0 reproved\n",
+            text: NONE,
             status: Status::Done,
         },
         // Another step is shared.
@@ -150,7 +156,7 @@ th $p c $= x $( a $) a x a b $.
 ${ g $e c $. h $e c $. b $a c $. $}
 th $p c $= ( x a b ) AZBDC $.
 ",
-            text: b"P th\ndiffer 0 gone 0 added 0 changed 1 reproved\n",
+            text: b"P th\ndiffer 0 gone 0 added 0 changed 1 reproved 0 renamed 0 moved\n",
             status: Status::Refused,
         },
         // The same labels in the same order make another tree.
@@ -163,7 +169,66 @@ th $p c $= x x a b $.
 ${ h $e c $. b $a c $. $}
 th $p c $= x x a b $.
 ",
-            text: b"C a\nC b\nP th\ndiffer 0 gone 0 added 2 changed 1 reproved\n",
+            text: b"C a\nC b\nP th\ndiffer 0 gone 0 added 2 changed 1 reproved 0 renamed 0 moved\n",
+            status: Status::Refused,
+        },
+    ] {
+        assert!(rt; is_told(rt.alloc(), &version)?);
+    }
+    Ok(())
+}
+
+#[test]
+fn tells_other_labels(rt: HostRuntime) -> Result<(), Fail> {
+    for version in [
+        // One is renamed, and another is gone beside one that says something else.
+        Version {
+            old: FOUR,
+            new: b"$c p q r s $. a $a p $. c $a q $. d $a r $. f $a s s $.\n",
+            text: b"G e\nA f\nR b c\ndiffer 1 gone 1 added 0 changed 0 reproved 1 renamed 0 moved\n",
+            status: Status::Refused,
+        },
+        // Of two that say the same none is renamed.
+        Version {
+            old: FOUR,
+            new: b"$c p q r s $. a $a p $. c $a q $. cc $a q $. d $a r $. e $a s $.\n",
+            text: b"G b\nA c\nA cc\ndiffer 1 gone 2 added 0 changed 0 reproved 0 renamed 0 moved\n",
+            status: Status::Refused,
+        },
+        // One that keeps its label isn't renamed, though a new one says the same.
+        Version {
+            old: FOUR,
+            new: b"$c p q r s $. a $a p $. b $a q $. c $a q $. d $a r $. e $a s $.\n",
+            text: b"A c\ndiffer 0 gone 1 added 0 changed 0 reproved 0 renamed 0 moved\n",
+            status: Status::Refused,
+        },
+    ] {
+        assert!(rt; is_told(rt.alloc(), &version)?);
+    }
+    Ok(())
+}
+
+#[test]
+fn tells_other_places(rt: HostRuntime) -> Result<(), Fail> {
+    for version in [
+        // What moves over two is told, and these aren't.
+        Version {
+            old: FOUR,
+            new: b"$c p q r s $. b $a q $. d $a r $. a $a p $. e $a s $.\n",
+            text: b"M a\ndiffer 0 gone 0 added 0 changed 0 reproved 0 renamed 1 moved\n",
+            status: Status::Refused,
+        },
+        Version {
+            old: FOUR,
+            new: b"$c p q r s $. e $a s $. a $a p $. b $a q $. d $a r $.\n",
+            text: b"M e\ndiffer 0 gone 0 added 0 changed 0 reproved 0 renamed 1 moved\n",
+            status: Status::Refused,
+        },
+        // Two that change places are both told; what is added between others moves none.
+        Version {
+            old: FOUR,
+            new: b"$c p q r s $. b $a q $. a $a p $. n $a p p $. d $a r $. e $a s $.\n",
+            text: b"A n\nM b\nM a\ndiffer 0 gone 1 added 0 changed 0 reproved 0 renamed 2 moved\n",
             status: Status::Refused,
         },
     ] {

@@ -2,7 +2,8 @@
 use Rattle.std.proofs.Common.{true, false, not, refl}
 use Rattle.std.proofs.lemmas.Bool.{false≢true}
 use Rattle.mm_diff.proofs.DifferingNumbers.{named_by, is_alone, not_alone, not_changed}
-use Rattle.mm_diff.proofs.DifferingNumbers.{differs_alone, differs_changed, changed_where}
+use Rattle.mm_diff.proofs.DifferingNumbers.{differs_alone, differs_changed, differs_shared, changed_where}
+use Rattle.mm_diff.proofs.DifferingNumbers.{not_shared}
 use Rattle.mm_diff.proofs.differences.assertion_differs.Goals as goal
 
 pub returns-in-Alone : goal.returns-in-Alone
@@ -49,5 +50,28 @@ returns-in-Changed-difference c =
     differs_changed c.args.difference st others c.args.id.0 false c.in-Changed-difference.is (
       (λ t. absurd (false≢true t)),
       (λ h. absurd (not_changed st others c.args.id.0 c.label.result.now named
+          (λ n there. c.in-None.ensures.none refl n there) h)),
+    )
+
+pub returns-in-Shared : goal.returns-in-Shared
+returns-in-Shared c =
+    let st = c.args.book.now.statements in
+    let others = c.args.other.now.statements in
+    let named = named_by st c.label.result.now c.args.id.0 c.requires
+    (λ s at. c.label.ensures s at) in
+    differs_shared c.args.difference st others c.args.id.0 true c.in-Shared.is (
+      (λ t. (c.label.result.now, named, c.in-Some.named.0, c.in-Some.ensures.some)),
+      (λ h. refl),
+    )
+
+pub returns-in-Shared-difference : goal.returns-in-Shared-difference
+returns-in-Shared-difference c =
+    let st = c.args.book.now.statements in
+    let others = c.args.other.now.statements in
+    let named = named_by st c.label.result.now c.args.id.0 c.requires
+    (λ s at. c.label.ensures s at) in
+    differs_shared c.args.difference st others c.args.id.0 false c.in-Shared-difference.is (
+      (λ t. absurd (false≢true t)),
+      (λ h. absurd (not_shared st others c.args.id.0 c.label.result.now named
           (λ n there. c.in-None.ensures.none refl n there) h)),
     )
