@@ -365,13 +365,26 @@ def texts(folder, size):
                                                    "symbol", "typed", "same")))
 
 
+def mended(folder, size):
+    """A proof whose expressions grow, and whose last step gives another one than its theorem's."""
+    head = ("$c e a $. $v x y $. fx $f e x $. fy $f e y $.\n"
+            "nil $a e a $. cat $a e x y $.\n")
+    write(folder, "f.mm", head, "th $p e a $= ( nil cat ) A", "AB" * size, " $.\n")
+    return asked(1, "mend th f.mm")
+
+
 # Why the time or the memory of a question grows faster than its bytes, by the case and the command.
 REASONS = {
     ("distinct", "check"): "a `$d` of n variables states n (n - 1) / 2 pairs, and each is judged",
     ("distinct", "show"): "as `check`",
     ("distinct", "statement"): "as `check`; and the reply has a line for each pair",
     ("distinct", "axioms"): "as `check`",
+    ("mended", "mend"): "some sixty changes of each byte are judged from the first step on, as long as "
+                        "those of one kind have 200,000 bytes",
 }
+
+# What a question may take whatever its bytes are, in seconds, where its bound is one of trials.
+SECONDS = {("mended", "mend"): 10}
 
 CASES = [
     ("blocks inside each other, with hypotheses and `$d`", blocks, 20_000),
@@ -396,6 +409,7 @@ CASES = [
     ("labels of 98 bytes that differ at their ends", alike_labels, 20_000),
     ("steps in two chains of growing values", growing_values, 10_000),
     ("steps in two chains of growing conclusions", growing, 5_000),
+    ("steps of growing values before a fault that is to be mended", mended, 2_000),
     ("axioms of one shape", syntax, 40_000),
     ("theorems, each by an axiom of its own and a first one", stars, 25_000),
     ("headings of mathboxes", mathboxes, 10_000),

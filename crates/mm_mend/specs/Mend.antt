@@ -115,7 +115,7 @@ reach_of text begin place = min (word_end text (place - begin)) (length text - 1
 
 -- how many bytes are judged in all, for one change at each place
 abbrev pub most_judged : ℕ
-most_judged = 1000000
+most_judged = 200000
 
 -- at how many of so many places changes are tried, in a text of so many bytes
 abbrev pub place_count : (size places : ℕ) → ℕ

@@ -9,7 +9,7 @@ ghost use Rattle.mm_mend.specs.Mend.{changes_of, closing_at as first_closing};
 ghost use Rattle.mm_mend.specs.Mend.{label_bytes as all_label_bytes, letters as all_letters};
 ghost use Rattle.mm_mend.specs.Mend.{others as others_than, place_count as places};
 ghost use Rattle.mm_mend.specs.Mend.{is_of_word as is_in_word, own_changes, removals};
-ghost use Rattle.mm_mend.specs.Mend.{word_changes};
+ghost use Rattle.mm_mend.specs.Mend.{most_judged, word_changes};
 ghost use Rattle.mm_mend.specs.Mend.{word_end as end_of_word};
 ghost use Rattle.mm_mend.specs.declared.change.Change.TheVariants.{Put, Replaced};
 
@@ -19,7 +19,7 @@ use mm_verdict::is_space;
 use std::alloc::{AllocError, Global};
 
 /// How many bytes are judged in all, for one change at each place.
-const MOST_JUDGED: usize = 1_000_000;
+const MOST_JUDGED: usize = 200_000;
 
 /// The letters of compressed proofs.
 #[tactic(auto, unfolding(crate::specs::Mend::letters))]
@@ -187,7 +187,7 @@ pub(crate) fn word_end(text: &[u8], at: usize) -> usize
 pub(crate) fn place_count(size: usize, count: usize) -> usize
     ensures count { result ≡ places size count }
     ensures within { result ≤ count }
-    ensures few { result ≤ 1000000 }
+    ensures few { result ≤ most_judged }
 {
     count.min(MOST_JUDGED / size.max(1))
 }

@@ -31,7 +31,7 @@ fn mends_a_slip(rt: HostRuntime) -> Result<(), Fail> {
     let one = b"$c a b $. one $a a $. two $a b $. th $p a $= ( one two ) B $.";
     let told = b"exchanged f.mm:1:48 one two\nreplaced f.mm:1:58 B A\n";
     assert!(rt; tells(alloc, one, told, Status::Done, b"")?);
-    let lost = b"$c a $. one $a a $. th $p a $= ( one ) $.";
+    let lost = b"$c a $. one $a a $. th $p a $= ( one )  $.";
     let put = b"put f.mm:1:40 A\n";
     assert!(rt; tells(alloc, lost, put, Status::Done, b"")?);
     let mistyped = b"$c a $. one $a a $. th $p a $= oen $.";
