@@ -7,9 +7,9 @@ use Rattle.mm_base.specs.Token.{PlainToken}
 use Rattle.mm_base.specs.Statement.{PlainStatement}
 use Rattle.mm_code.specs.Layout.{texts}
 use Rattle.mm_rules.specs.Verdict.{labels_of, label_of}
-use Rattle.mm_facts.specs.Near.{AreNearest, AreNearestBelow}
-use Rattle.mm_facts.proofs.Offers.{nearest_told}
-use Rattle.mm_facts.specs.declared.suggestion.Nearest.{Nearest}
+use Rattle.mm_near.specs.Near.{AreNearest, AreNearestBelow}
+use Rattle.mm_near.proofs.Offers.{nearest_told}
+use Rattle.mm_near.specs.declared.nearest.Nearest.{Nearest}
 use Rattle.mm_explain.specs.Mirror.Offered.{HasOffered}
 
 -- nothing was offered yet

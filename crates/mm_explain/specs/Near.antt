@@ -5,7 +5,7 @@ use Rattle.mm_text.specs.declared.fault.LoadRule.{LoadRule}
 use Rattle.mm_text.specs.Files.{BreaksLoad, PlainFile}
 use Rattle.mm_text.specs.Reading.{PlainFault, Reads}
 use Rattle.mm_rules.specs.Verdict.{CanBeRead, labels_of}
-use Rattle.mm_facts.specs.Near.{AreNearest}
+use Rattle.mm_near.specs.Near.{AreNearest}
 
 -- these are the nearest of the labels of the statements that the files hold
 abbrev pub AreNearestOf : List PlainFile → (label : List ℕ) → (told : List (List ℕ)) → Type 0

@@ -4,12 +4,12 @@ ghost use Rattle.std.specs.Prelude.{◌≡◌, [], List, map, IfOk, OnOk};
 ghost use Rattle.mm_code.specs.Layout.{texts};
 ghost use Rattle.mm_text.specs.Files.{plain_file};
 ghost use Rattle.mm_rules.specs.Verdict.{labels_of};
-ghost use Rattle.mm_facts.specs.Near.{AreNearestBelow};
+ghost use Rattle.mm_near.specs.Near.{AreNearestBelow};
 ghost use Rattle.mm_explain.specs.Near.{AreNearestIn};
 ghost use Rattle.mm_explain.specs.Mirror.Offered.{HasOffered};
 
 use mm_base::{File, Seed, Statement};
-use mm_facts::Nearest;
+use mm_near::Nearest;
 use mm_rules::CheckFault;
 use mm_text::{Passing, pass_next};
 use mm_verdict::load;

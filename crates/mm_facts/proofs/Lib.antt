@@ -8,9 +8,6 @@ pub mod LackingDetails
 pub mod DisjointDetails
 pub mod PairsAsked
 pub mod FaultPlaces
-pub mod Scripts
-pub mod FirstChanges
-pub mod Offers
 pub mod NearLabels
 pub mod ListedLabels
 pub mod OrderedPairs

@@ -23,8 +23,8 @@ use Rattle.mm_step.specs.Steps.{IsProofNumber, IsUsable}
 use Rattle.mm_proof.specs.Parsed.{OfProof}
 use Rattle.mm_proof.proofs.ProofNumbers.NumberedLabels.{numbers_order}
 use Rattle.mm_facts.specs.Explained.{labels_in, AreNearLabels}
-use Rattle.mm_facts.specs.Near.{AreNearestBelow}
-use Rattle.mm_facts.proofs.Offers.{those_next, those_passed, nearest_told}
+use Rattle.mm_near.specs.Near.{AreNearestBelow}
+use Rattle.mm_near.proofs.Offers.{those_next, those_passed, nearest_told}
 
 -- the kind of a labelled statement that is no hypothesis
 pub assertion_kind : (kind : LabelKind) → kind ≢ label_kinds.Floating → kind ≢ label_kinds.Essential

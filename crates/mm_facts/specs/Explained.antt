@@ -33,7 +33,7 @@ use Rattle.mm_places.specs.WholePlaces.{IsWholePlace}
 use Rattle.mm_proof.specs.UnderProfile.{IsFaultUnder, IsPrefixFaultUnder}
 use Rattle.mm_rules.specs.Shown.{symbols_text}
 use Rattle.mm_rules.specs.Explained.{AreMandatoryPairs}
-use Rattle.mm_facts.specs.Near.{AreNearest, joined}
+use Rattle.mm_near.specs.Near.{AreNearest, joined}
 use Rattle.mm_facts.specs.StepTexts.{IsStepText}
 
 -- a fact about a fault

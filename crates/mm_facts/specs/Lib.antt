@@ -1,6 +1,4 @@
 pub mod Mirror
-pub mod Changes
-pub mod Near
 pub mod StepTexts
 pub mod Explained
 pub mod Lettered

@@ -2,6 +2,4 @@
 -- alone speak of them, and lemmas join them to the definitions, which are the other files of
 -- specs/.
 pub mod Explaining
-pub mod FirstChanges
 pub mod Lettered
-pub mod NearSoFar

@@ -46,12 +46,12 @@ use crate::fact_lines::{
 use crate::listed::listed_texts;
 use crate::named_halt::NamedHalt;
 use crate::step_texts::named_halt;
-use crate::suggestion::Nearest;
 use crate::types::{codes_given, codes_taken, first_of_other_type};
 use mm_base::{File, Token};
 use mm_distinct::{asked_by, lacking_pairs};
 use mm_frame::{Book, Frame, Hypothesis, LabelId, LabelKind, Sym};
 use mm_listing::{Halt, HaltAt};
+use mm_near::Nearest;
 use mm_places::whole_place;
 use mm_proof::{Parsed, Steps};
 use mm_step::{Profile, ProofFault, ProofRule};

@@ -17,7 +17,7 @@ ghost use Rattle.mm_facts.specs.Explained.{hypothesis_stated, entry_given, hypot
 ghost use Rattle.mm_facts.specs.Explained.{most_symbols, missing_pair, step_lacks, shared_by_both};
 ghost use Rattle.mm_facts.specs.Explained.{block_opened, near_labels, stated_at, block_ended_at};
 ghost use Rattle.mm_facts.specs.Explained.{told_of};
-ghost use Rattle.mm_facts.specs.Near.{joined};
+ghost use Rattle.mm_near.specs.Near.{joined};
 ghost use Rattle.mm_facts.specs.Explained.{hypothesis_at, type_asked, types_taken, details_text};
 ghost use Rattle.mm_facts.specs.Explained.{missing_before};
 ghost use Rattle.mm_facts.specs.Mirror.Explaining.{is_told};

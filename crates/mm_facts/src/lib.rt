@@ -3,12 +3,10 @@
 //! P and L1. It stands on `mm_rules`, `mm_listing`, `mm_places` and `mm_distinct`, and not on the
 //! verdict. Begin with `details`, which has the order of the facts; `types` has the types of P9,
 //! `disjoint` the pairs of P11 and P12, `step_texts` how steps are told, `fact_lines` the words of
-//! every fact, `fault_places` the places, `suggestion` the labels that are nearest to an unknown
-//! one, by the fewest `changes`. What is reported is defined in `specs/Explained.antt`. `lettered` lists
-//! the steps of any proof with their places and letters (`specs/Lettered.antt`).
+//! every fact, `fault_places` the places. What is reported is defined in `specs/Explained.antt`.
+//! `lettered` lists the steps of any proof with their places and letters (`specs/Lettered.antt`).
 #![tactic(auto)]
 
-mod changes;
 mod details;
 mod disjoint;
 mod fact_lines;
@@ -17,7 +15,6 @@ mod lettered;
 mod listed;
 mod named_halt;
 mod step_texts;
-mod suggestion;
 mod token_position;
 mod types;
 
@@ -30,4 +27,3 @@ pub use fault_places::{fault_place, place_among};
 pub use lettered::lettered_text;
 pub use listed::listed_labels;
 pub use named_halt::NamedHalt;
-pub use suggestion::Nearest;

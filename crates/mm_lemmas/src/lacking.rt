@@ -6,17 +6,15 @@ ghost use Rattle.mm_text.specs.Reading.{Reads};
 ghost use Rattle.mm_rules.specs.declared.ask.AskFault.TheVariants.{Memory};
 ghost use Rattle.mm_lemmas.specs.Told.{ListsLemmas};
 
-use crate::assertions::Library;
-use crate::budget::Budget;
-use crate::lemma::{Lemma, Wanted};
 use crate::listing::listed;
-use crate::names::Words;
-use crate::remarks::{Remark, Remarks, remarks_of};
-use crate::rows::next_number;
-use crate::search::{LEMMA_STEPS, Proved, Search};
 use mm_frame::{Book, LabelId, LabelKind, Sym};
+use mm_lemma_search::{
+    LEMMA_STEPS, Lemma, Proved, Remark, Remarks, Search, Wanted, Words, remarks_of,
+};
+use mm_patterns::Library;
 use mm_proof::StepsReader;
 use mm_rules::AskFault;
+use mm_terms::{Budget, next_number};
 use mm_verdict::{Checked, Rereading, Watch};
 use std::alloc::{AllocError, Global};
 

@@ -9,10 +9,9 @@ ghost use Rattle.mm_lemmas.specs.Told.{gain_text, most_sum, name_text, sums_text
 ghost use Rattle.mm_lemmas.specs.Mirror.Listing.{AreNamesOf, AreSums, IsListedSoFar};
 ghost use Rattle.mm_lemmas.specs.Mirror.Listing.{PutsLine, line_of, plain_name, plain_known};
 
-use crate::lemma::Lemma;
-use crate::names::Words;
 use crate::told::{Gain, Name, Source, Told, source_of, told_of};
 use mm_find::{push_premises, push_words};
+use mm_lemma_search::{Lemma, Words};
 use mm_rules::{push_decimal, push_number, push_word};
 use mm_verdict::Checked;
 use std::alloc::{AllocError, Global};

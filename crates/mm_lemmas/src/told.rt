@@ -6,8 +6,8 @@ ghost use Rattle.mm_text.specs.Reading.{Reads};
 ghost use Rattle.mm_lemmas.specs.Told.{IsKnownThere, IsThere};
 ghost use Rattle.mm_lemmas.specs.Mirror.Listing.{AreNamesOf, plain_known, plain_name};
 
-use crate::lemma::{Lemma, Part};
 use mm_frame::{Found, Piece, Sym};
+use mm_lemma_search::{Lemma, Part};
 use mm_verdict::Checked;
 use std::alloc::{AllocError, Global};
 

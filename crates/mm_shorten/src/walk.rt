@@ -6,8 +6,8 @@ use crate::budget::Budget;
 use crate::matches::Matches;
 use crate::patterns::Patterns;
 use crate::room::has_room;
-use crate::syntax::{Span, Spans};
 use crate::step_table::ROOT;
+use crate::syntax::{Span, Spans};
 use mm_frame::Sym;
 use std::alloc::{AllocError, Global};
 

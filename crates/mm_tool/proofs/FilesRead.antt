@@ -37,7 +37,7 @@ use Rattle.mm_tool.specs.Ending.{AreAllNotes, IsRefusedNote, label_of}
 use Rattle.mm_minimize.specs.declared.search_watch.Searched.{Searched}
 use Rattle.mm_explain.specs.Near.{AreNearestIn}
 use Rattle.mm_code.specs.Layout.{texts}
-use Rattle.mm_facts.specs.Near.{joined}
+use Rattle.mm_near.specs.Near.{joined}
 use Rattle.mm_tool.specs.Notes.{AreLeftOut, AreNotesBeside, AreNotesOn, IsNearLine, near_line}
 use Rattle.mm_tool.specs.Notes.{near_beginning}
 use Rattle.mm_rules.specs.declared.ask.AskFault.TheVariants.{Rule}

@@ -8,7 +8,7 @@ use Rattle.clap.specs.Words.{Text}
 use Rattle.mm_text.specs.declared.fault.LoadRule.{LoadRule}
 use Rattle.mm_text.specs.Files.{BreaksLoad, PlainFile}
 use Rattle.mm_text.specs.Included.{left_out}
-use Rattle.mm_facts.specs.Near.{joined}
+use Rattle.mm_near.specs.Near.{joined}
 use Rattle.mm_explain.specs.Near.{AreNearestIn}
 use Rattle.mm_rules.specs.declared.ask.AskFault.TheVariants.{Rule}
 use Rattle.mm_rules.specs.declared.rule.AskRule.TheVariants.{A1}

@@ -2,9 +2,7 @@
 
 use mm_base::Seed;
 use mm_frame::{Book, Hypothesis, LabelId, Part, Sym};
-use mm_shorten::{
-    Aim, BYTE, Budget, Edge, Goal, Graph, Origin, choose_text, goals_of, step_price,
-};
+use mm_shorten::{Aim, BYTE, Budget, Edge, Goal, Graph, Origin, choose_text, goals_of, step_price};
 use std::alloc::{AllocError, Global};
 use std::test::Fail;
 

@@ -4,8 +4,8 @@ use Rattle.std.specs.Prelude.{◌≡◌, List, []}
 use Rattle.mm_base.specs.Statement.{PlainStatement}
 use Rattle.mm_code.specs.Layout.{texts}
 use Rattle.mm_rules.specs.Verdict.{labels_of}
-use Rattle.mm_facts.specs.Near.{AreNearestBelow}
-use Rattle.mm_facts.specs.declared.suggestion.Nearest.{Nearest}
+use Rattle.mm_near.specs.Near.{AreNearestBelow}
+use Rattle.mm_near.specs.declared.nearest.Nearest.{Nearest}
 
 -- the labels of the statements were offered, since the first state
 pub record HasOffered (first now : Nearest) (passed : List PlainStatement) : Type 0 where

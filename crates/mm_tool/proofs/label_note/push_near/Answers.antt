@@ -2,7 +2,7 @@
 use Rattle.std.proofs.Common.{◌++◌, ap, codes, length, sym, ◌∙◌}
 use Rattle.std.proofs.lemmas.Result.{on_ok_weaker}
 use Rattle.mm_code.specs.Layout.{texts}
-use Rattle.mm_facts.specs.Near.{joined}
+use Rattle.mm_near.specs.Near.{joined}
 use Rattle.mm_facts.proofs.DisjointDetails.{some_in}
 use Rattle.mm_tool.proofs.FilesRead.{near_lines, three_parts}
 use Rattle.mm_tool.proofs.label_note.push_near.Goals as goal

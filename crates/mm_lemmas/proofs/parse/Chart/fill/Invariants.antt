@@ -1,6 +1,0 @@
--- Nothing is put back into the budget.
-use Rattle.std.proofs.Common.{◌≤◌}
-use Rattle.mm_lemmas.proofs.parse.Chart.fill.Given as goal
-
-abbrev pub invariant-loop-number : goal.invariant-loop-number
-invariant-loop-number l = l.budget ≤ l.initial.budget

@@ -1,6 +1,0 @@
--- Nothing is put back into the budget.
-use Rattle.std.proofs.Common.{◌≤◌}
-use Rattle.mm_lemmas.proofs.pattern.take_pairs.Given as goal
-
-abbrev pub invariant-loop-pair : goal.invariant-loop-pair
-invariant-loop-pair l = l.budget ≤ l.initial.budget

@@ -1,6 +1,0 @@
--- Nothing is put back into the budget.
-use Rattle.std.proofs.Common.{◌≤◌}
-use Rattle.mm_lemmas.proofs.size.Sizes.write.Given as goal
-
-abbrev pub invariant-loop : goal.invariant-loop
-invariant-loop l = l.budget ≤ l.initial.budget

@@ -1,0 +1,6 @@
+-- Nothing is put back into the budget.
+use Rattle.std.proofs.Common.{◌≤◌}
+use Rattle.mm_terms.proofs.replacing.Replacing.of.Given as goal
+
+abbrev pub invariant-loop : goal.invariant-loop
+invariant-loop l = l.budget ≤ l.initial.budget
