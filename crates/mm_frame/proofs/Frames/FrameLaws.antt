@@ -170,6 +170,41 @@ those_by_indices P xs indices rise within tells = those_from P xs 0 xs indices r
   only = λ i p x there at. (tells p x at).1 (contains_from_at indices p (i, there));
 }
 
+-- ==== one more element
+
+-- of one more it holds
+pub those_more : {X : Type 0} (P : ℕ → X → Type 0) (n : ℕ) (xs ys : List X) (x : X)
+    → AreThose P n xs ys → P (n + length xs) x → AreThose P n (xs ++ x ∷ []) (ys ++ x ∷ [])
+those_more {X} P n [] ys x those is =
+    let here : n + 0 ≡ n = omega arith in
+    inl (subst (λ k. P k x) here is, [], ap (λ (l : List X). l ++ x ∷ []) those, refl)
+those_more {X} P n (y ∷ xs) ys x those is =
+    let at : n + suc (length xs) ≡ n + 1 + length xs = omega arith in
+    let later = subst (λ k. P k x) at is in
+    elim those [
+      | inl one ↦ inl (
+        one.0,
+        one.1 ++ x ∷ [],
+        ap (λ (l : List X). l ++ x ∷ []) one.2,
+        those_more P (n + 1) xs one.1 x one.3 later,
+      )
+      | inr other ↦ inr (other.0, those_more P (n + 1) xs ys x other.1 later)
+    ]
+
+-- of one more it doesn't
+pub those_skipped : {X : Type 0} (P : ℕ → X → Type 0) (n : ℕ) (xs ys : List X) (x : X)
+    → AreThose P n xs ys → ¬ (P (n + length xs) x) → AreThose P n (xs ++ x ∷ []) ys
+those_skipped P n [] ys x those isnt =
+    let here : n ≡ n + 0 = omega arith in
+    inr ((λ is. isnt (subst (λ k. P k x) here is)), those)
+those_skipped P n (y ∷ xs) ys x those isnt =
+    let at : n + 1 + length xs ≡ n + suc (length xs) = omega arith in
+    let later : ¬ (P (n + 1 + length xs) x) = λ is. isnt (subst (λ k. P k x) at is) in
+    elim those [
+      | inl one ↦ inl (one.0, one.1, one.2, those_skipped P (n + 1) xs one.1 x one.3 later)
+      | inr other ↦ inr (other.0, those_skipped P (n + 1) xs ys x other.1 later)
+    ]
+
 -- ==== frames stay what they are as statements are added
 
 abbrev pub at_index : List Sentence → ℕ → FrameIndex

@@ -13,44 +13,11 @@ use Rattle.mm_step.specs.declared.call.Call.{Call}
 use Rattle.mm_step.specs.Moves.{Move, mark, is_step, steps_in}
 use Rattle.mm_listing.specs.Uses.{AreOfSteps}
 use Rattle.mm_listing.specs.Mirror.StepUses.{sources_of, IsAskedOf}
-use Rattle.mm_frame.proofs.Frames.FrameLaws.{those_hold}
+use Rattle.mm_frame.proofs.Frames.FrameLaws.{those_hold, those_more, those_skipped}
 use Rattle.mm_proof.proofs.ProofVerdicts.FirstFault.{steps_in-append}
 use Rattle.mm_listing.proofs.Machines.ListedLines.{old_or_new, one_step}
 
 -- ==== those of a list of which something holds
-
--- of one more it holds
-those_more : {X : Type 0} (P : ℕ → X → Type 0) (n : ℕ) (xs ys : List X) (x : X)
-    → AreThose P n xs ys → P (n + length xs) x → AreThose P n (xs ++ x ∷ []) (ys ++ x ∷ [])
-those_more {X} P n [] ys x those is =
-    let here : n + 0 ≡ n = omega arith in
-    inl (subst (λ k. P k x) here is, [], ap (λ (l : List X). l ++ x ∷ []) those, refl)
-those_more {X} P n (y ∷ xs) ys x those is =
-    let at : n + suc (length xs) ≡ n + 1 + length xs = omega arith in
-    let later = subst (λ k. P k x) at is in
-    elim those [
-      | inl one ↦ inl (
-        one.0,
-        one.1 ++ x ∷ [],
-        ap (λ (l : List X). l ++ x ∷ []) one.2,
-        those_more P (n + 1) xs one.1 x one.3 later,
-      )
-      | inr other ↦ inr (other.0, those_more P (n + 1) xs ys x other.1 later)
-    ]
-
--- of one more it doesn't
-those_skipped : {X : Type 0} (P : ℕ → X → Type 0) (n : ℕ) (xs ys : List X) (x : X)
-    → AreThose P n xs ys → ¬ (P (n + length xs) x) → AreThose P n (xs ++ x ∷ []) ys
-those_skipped P n [] ys x those isnt =
-    let here : n ≡ n + 0 = omega arith in
-    inr ((λ is. isnt (subst (λ k. P k x) here is)), those)
-those_skipped P n (y ∷ xs) ys x those isnt =
-    let at : n + 1 + length xs ≡ n + suc (length xs) = omega arith in
-    let later : ¬ (P (n + 1 + length xs) x) = λ is. isnt (subst (λ k. P k x) at is) in
-    elim those [
-      | inl one ↦ inl (one.0, one.1, one.2, those_skipped P (n + 1) xs one.1 x one.3 later)
-      | inr other ↦ inr (other.0, those_skipped P (n + 1) xs ys x other.1 later)
-    ]
 
 -- something else holds of the same
 pub those_same : {X : Type 0} (P Q : ℕ → X → Type 0) → ((i : ℕ) (x : X) → P i x ↔ Q i x) → (n : ℕ)
