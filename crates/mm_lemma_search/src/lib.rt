@@ -5,6 +5,7 @@
 //! `trial`.
 #![tactic(auto)]
 
+mod gathered;
 mod lemma;
 mod names;
 mod remarks;
@@ -13,7 +14,8 @@ mod text_size;
 mod trial;
 mod wording;
 
+pub use gathered::{Proved, Search};
 pub use lemma::{Lemma, Part, Wanted};
 pub use names::{Names, Words};
 pub use remarks::{Remark, Remarks, remarks_of};
-pub use search::{LEMMA_STEPS, Proved, Search};
+pub use search::LEMMA_STEPS;

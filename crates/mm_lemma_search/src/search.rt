@@ -3,38 +3,17 @@
 
 ghost use Rattle.std.specs.Prelude.{◌≤◌};
 
+use crate::gathered::{Search, Waiting};
 use crate::lemma::{Lemma, Part, Wanted};
 use crate::trial::{Changed, Draft, LEAST_PLACES, Spot, Trial, uses_in};
-use mm_frame::{Book, Hypothesis, LabelId};
-use mm_patterns::{Digram, Digrams, Library, Names, Numbered, Pattern, Shape, Sizes, Theorem};
-use mm_proof::Steps;
-use mm_step::{Call, call_of};
+use mm_frame::LabelId;
+use mm_patterns::{Digram, Names, Numbered, Pattern, Shape};
 use mm_terms::{Budget, next_number};
 use mm_verdict::{SoFar, Watch};
 use std::alloc::{AllocError, Global};
-use std::collections::BinaryHeap;
 
 /// How many steps a search takes at most, where nothing else is wanted.
 pub const LEMMA_STEPS: u64 = 4_000_000_000;
-
-/// A theorem whose proof may be rewritten.
-#[derive(Clone, Copy, PartialEq, Eq, Debug)]
-pub struct Proved {
-    /// Its label.
-    pub id: LabelId,
-    /// The number of its block, as of an assertion.
-    pub block: u32,
-    /// The number of its mathbox, from 1 on; 0 outside of all.
-    pub mathbox: u32,
-}
-
-// A digram that waits to be tried, and how many bytes it is thought to save. The greatest saving
-// comes first.
-#[derive(Clone, Copy, PartialEq, Eq, PartialOrd, Ord)]
-struct Waiting {
-    saved: u64,
-    number: u32,
-}
 
 // What is known of a digram's gain by where it stands.
 #[derive(Clone, Copy)]
@@ -57,20 +36,6 @@ enum Fate {
     Left,
 }
 
-/// A library, the proofs of its theorems, and what was found in them.
-#[derive(Drop)]
-pub struct Search {
-    pub library: Library,
-    pub theorems: Vec<Theorem>,
-    pub digrams: Digrams,
-    pub sizes: Sizes,
-    /// The first block of a mathbox.
-    pub first_mathbox: Option<u32>,
-    /// How many labels the library has.
-    labels: usize,
-    waiting: BinaryHeap<Waiting>,
-}
-
 // The least text of a lemma.
 const LEAST_TEXT: u64 = 100;
 
@@ -78,47 +43,6 @@ const LEAST_TEXT: u64 = 100;
 const HUNDREDTHS: u64 = 100;
 
 impl Search {
-    /// A search by what a library has; no proofs are known. All labelled statements were entered.
-    /// The number is that of the first block of a mathbox: a lemma for several mathboxes stands
-    /// before it.
-    pub fn new(library: Library, first_mathbox: Option<u32>) -> Search {
-        let alloc = library.alloc;
-        let seed = library.seed;
-        Search {
-            labels: library.named.len(),
-            library,
-            theorems: Vec::new(alloc),
-            digrams: Digrams::new(alloc, seed),
-            sizes: Sizes::new(alloc),
-            first_mathbox,
-            waiting: BinaryHeap::new(alloc),
-        }
-    }
-
-    /// Takes in a theorem and the steps of its proof, in the order of the database. It is passed
-    /// over where its proof is incomplete, or doesn't end with something provable.
-    ///
-    /// # Errors
-    ///
-    /// Where a growth was refused.
-    pub fn take(&mut self, book: &Book, theorem: Proved, steps: &Steps) -> Result<(), AllocError> {
-        if steps.prefix {
-            return Ok(());
-        }
-        let hypotheses = hypotheses_of(self.library.alloc, book, theorem.id)?;
-        if let Some(proof) = self.library.decode(book, steps)? {
-            self.theorems.push(Theorem {
-                id: theorem.id,
-                block: theorem.block,
-                mathbox: theorem.mathbox,
-                hypotheses,
-                proof,
-                bytes: 0,
-            })?;
-        }
-        Ok(())
-    }
-
     /// The lemmas that save most, the best first: each saves what it is told to save after those
     /// before it. Those that something says already are told, and left aside. It is asked once.
     /// Fewer are found where the budget is used up. The watch is told of each that is found.
@@ -540,23 +464,6 @@ impl Search {
             Part::Lemma(name - labels)
         }
     }
-}
-
-// The labels of the mandatory hypotheses of an assertion, in order.
-fn hypotheses_of(alloc: Global, book: &Book, id: LabelId) -> Result<Vec<u32>, AllocError> {
-    match call_of(book, id) {
-        Call::Hypothesis(_) => Ok(Vec::new(alloc)),
-        Call::Assertion(signature) => numbers_of(alloc, signature.hypotheses),
-    }
-}
-
-// The numbers of the labels of hypotheses.
-fn numbers_of(alloc: Global, hypotheses: &[Hypothesis]) -> Result<Vec<u32>, AllocError> {
-    let mut numbers = Vec::with_capacity(alloc, hypotheses.len())?;
-    for hypothesis in hypotheses {
-        numbers.push(hypothesis.id.0)?;
-    }
-    Ok(numbers)
 }
 
 // How many variables and hypotheses a step by a lemma has less than its two steps.

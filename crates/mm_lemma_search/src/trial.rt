@@ -2,8 +2,8 @@
 
 ghost use Rattle.std.specs.Prelude.{◌≤◌};
 
+use crate::gathered::Search;
 use crate::lemma::Wanted;
-use crate::search::Search;
 use crate::text_size::text_bytes;
 use crate::wording::{Wording, worded, worded_each};
 use mm_frame::Piece;

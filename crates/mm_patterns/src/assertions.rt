@@ -2,9 +2,10 @@
 
 ghost use Rattle.std.specs.Prelude.{◌≤◌};
 
-use crate::digrams::Digram;
+use crate::digram::Digram;
 use crate::joint::Sides;
 use crate::pattern::{Pattern, pattern_of};
+use crate::shape::{Shape, Standing};
 use mm_base::Seed;
 use mm_frame::{Book, Hypothesis, LabelId, LabelKind, ShortPiece, Signature, Sym};
 use mm_step::{Call, call_of};
@@ -20,36 +21,6 @@ pub(crate) const PATTERN_STEPS: u64 = 20_000;
 /// Where there are so many terms, no further assertions are parsed and no lemmas are made: proofs
 /// alone get more.
 pub(crate) const MOST_TERMS: usize = 1 << 23;
-
-/// Where an assertion stands, and whether lemmas may be made of it.
-#[derive(Clone, Copy, PartialEq, Eq, Debug)]
-pub struct Standing {
-    /// Whether proofs may newly use it.
-    pub is_usable: bool,
-    /// The number of the statement outside of all blocks that it is, or of the outermost block in
-    /// which it stands: rising, from first to last. A lemma stands before one of these.
-    pub block: u32,
-    /// The number of its mathbox, from 1 on; 0 outside of all.
-    pub mathbox: u32,
-}
-
-/// What an assertion says, over variables of its own: they are its mandatory variables, numbered by
-/// the order of their `$f`.
-#[derive(Drop)]
-pub struct Shape {
-    /// The type codes of its variables.
-    pub variables: Vec<Sym>,
-    /// The terms of its `$e`, in order, without their type codes.
-    pub essentials: Vec<u32>,
-    /// The term that it concludes, without its type code.
-    pub conclusion: u32,
-    /// Its mandatory distinct pairs, by the numbers of its variables.
-    pub pairs: Vec<(u32, u32)>,
-    /// The number of the first block before which what is made of it may stand.
-    pub from: u32,
-    /// The number of its mathbox; 0 outside of all.
-    pub mathbox: u32,
-}
 
 /// What proofs can name: a labelled statement of the database by the number of its label, or a
 /// lemma behind all of these.

@@ -1,19 +1,12 @@
 //! Where a step proves a `$e` of another one, and nothing else: by the two assertions and the `$e`.
 
 use crate::assertions::Library;
+use crate::digram::Digram;
 use crate::proof::{Proof, uses_at};
 use indexmap::IndexMap;
 use mm_base::Seed;
 use mm_terms::{Rows, next_number};
 use std::alloc::{AllocError, Global};
-
-/// An assertion, the index of one of its `$e`, and an assertion that proves it.
-#[derive(Clone, Copy, PartialEq, Eq, Debug)]
-pub struct Digram {
-    pub upper: u32,
-    pub place: u32,
-    pub lower: u32,
-}
 
 /// A node of a theorem's proof.
 #[derive(Clone, Copy, PartialEq, Eq, PartialOrd, Ord, Debug)]

@@ -2,7 +2,7 @@
 
 ghost use Rattle.std.specs.Prelude.{◌≤◌};
 
-use crate::assertions::Shape;
+use crate::shape::Shape;
 use mm_base::Seed;
 use mm_frame::Sym;
 use mm_terms::{Budget, Replacing, Terms, Unifier, Variable, next_number};

@@ -2,8 +2,9 @@
 
 ghost use Rattle.std.specs.Prelude.{◌≤◌};
 
-use crate::assertions::{Library, Shape};
+use crate::assertions::Library;
 use crate::pattern::Pattern;
+use crate::shape::Shape;
 use mm_base::Seed;
 use mm_terms::{Budget, Head, Leaves, Terms};
 use std::alloc::{AllocError, Global};

@@ -7,17 +7,21 @@
 
 mod assertions;
 mod decode;
+mod digram;
 mod digrams;
 mod joint;
 mod known;
 mod pattern;
 mod proof;
 mod rewriting;
+mod shape;
 mod size;
 
-pub use assertions::{Library, Named, Shape, Standing, tokens_by};
-pub use digrams::{Digram, Digrams, Numbered, Place, Uses};
+pub use assertions::{Library, Named, tokens_by};
+pub use digram::Digram;
+pub use digrams::{Digrams, Numbered, Place, Uses};
 pub use pattern::{Hole, Pattern};
 pub use proof::{Node, Proof, Theorem};
 pub use rewriting::{Change, NewProof, own_proof, rewritten};
+pub use shape::{Shape, Standing};
 pub use size::{Names, Sizes};

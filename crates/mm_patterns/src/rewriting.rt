@@ -1,6 +1,7 @@
 //! A proof with steps by a lemma in place of digrams.
 
-use crate::digrams::{Digram, Place};
+use crate::digram::Digram;
+use crate::digrams::Place;
 use crate::pattern::{Hole, Pattern};
 use crate::proof::{Proof, uses_at};
 use std::alloc::{AllocError, Global};

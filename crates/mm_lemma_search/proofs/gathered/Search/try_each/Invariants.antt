@@ -1,6 +1,6 @@
 -- Nothing is put back into the budget.
 use Rattle.std.proofs.Common.{◌≤◌}
-use Rattle.mm_lemma_search.proofs.search.Search.try_each.Given as goal
+use Rattle.mm_lemma_search.proofs.gathered.Search.try_each.Given as goal
 
 abbrev pub invariant-loop : goal.invariant-loop
 invariant-loop l = l.budget ≤ l.initial.budget
