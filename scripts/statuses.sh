@@ -694,16 +694,16 @@ ends 1 '' "$lost" mend th1 lost.mm
 diff_use='mm diff OLD NEW\n       mm diff OLD.. -- NEW..'
 sed 's/t + r/r + t/; s/tze [$]a/tzero $a/; s/= tze tze tpl/= tzero/; s/( 0 + 0 )/0/' \
     first.mm >second.mm
-none='differ 0 gone 0 added 0 changed 0 reproved 0 renamed 0 moved\n'
+none='differ 0 gone 0 added 0 changed 0 reproved 0 renamed 0 moved 0 further 0 less\n'
 ends 0 "$none" '' diff first.mm saved.mm
 ends 0 "$none" '' diff first.mm ./first.mm
 ends 0 "$none" '' diff first.mm -- first.mm
 ends 0 "$none" '' diff empty.mm ./empty.mm
-sums='differ 0 gone 0 added 2 changed 0 reproved 1 renamed 0 moved\n'
-ends 1 "C tpl\nC th\nR tze tzero\n$sums" '' diff first.mm second.mm
-ends 1 "C tpl\nC th\nR tzero tze\n$sums" '' diff second.mm first.mm
-ends 1 'A tze\nA tpl\nA th\ndiffer 0 gone 3 added 0 changed 0 reproved 0 renamed 0 moved\n' \
-    '' diff empty.mm -- -first.mm
+sums='differ 0 gone 0 added 2 changed 0 reproved 1 renamed 0 moved'
+ends 1 "C tpl\nC th\nR tze tzero\nL th tpl\n$sums 0 further 1 less\n" '' diff first.mm second.mm
+ends 1 "C tpl\nC th\nR tzero tze\nF th tpl\n$sums 1 further 0 less\n" '' diff second.mm first.mm
+sums='differ 0 gone 3 added 0 changed 0 reproved 0 renamed 0 moved 0 further 0 less\n'
+ends 1 "A tze\nA tpl\nA th\n$sums" '' diff empty.mm -- -first.mm
 ends 0 "$none" '' diff top.mm terms.mm rules.mm symbols.mm -- top.mm terms.mm rules.mm symbols.mm
 ends 0 "$none" "$(note twice.mm)$(note loose.mm tight.mm)" \
     diff first.mm twice.mm -- saved.mm loose.mm tight.mm

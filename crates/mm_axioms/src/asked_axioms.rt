@@ -2,7 +2,8 @@
 
 ghost use Rattle.mm_rules.specs.Answer.{IsKeptOf};
 ghost use Rattle.mm_axioms.specs.Mirror.Tables.{AreTables, IsOfKind, IsReportAt};
-ghost use Rattle.mm_rules.specs.Rests.{AreInOrder, IsNumberWhere};
+ghost use Rattle.mm_rules.specs.Rests.{AreInOrder, IsNumberWhere, RestsOn};
+ghost use Rattle.mm_rules.specs.Mirror.Marks.{IsAxiomNumber, UsedIn};
 ghost use Rattle.mm_rules.specs.Rests.{IsNamed, IsAskFault, IsReport};
 ghost use Rattle.mm_axioms.specs.Users.{IsAssertionFault, AreUsers};
 ghost use Rattle.mm_axioms.specs.Chains.{AreEnds, IsChain, IsChainFault};
@@ -23,7 +24,7 @@ use crate::bits::index_of;
 use crate::chains::{ChainFault, chain_between};
 use crate::essential::of_type;
 use crate::report::{
-    Report, Tables, axioms_among, marked_among, reach, report_in, tables_of, theorems_of,
+    Report, Tables, axioms_among, axioms_in, marked_among, reach, report_in, tables_of, theorems_of,
 };
 use crate::users::{all_users_among, users_among};
 use mm_frame::{Found, LabelId};
@@ -265,4 +266,19 @@ pub(crate) fn report_at(
             Ok(Some(report))
         }
     }
+}
+
+/// The axioms that a theorem depends on, as the tables tell them, in database order.
+pub fn axioms_at(
+    alloc: Global,
+    checked: &Checked,
+    tables: &Tables,
+    theorem: LabelId,
+) -> Result<Vec<LabelId>, AllocError>
+    requires { AreTables checked.now.sentences checked.now.incomplete checked.now.uses
+        tables.now }
+    ensures { IfOk result (λ ids. AreInOrder (λ n. IsAxiomNumber checked.now.sentences n
+        × RestsOn (UsedIn checked.now.uses) theorem.0 n) (map (λ l. l.0) ids.items)) }
+{
+    axioms_in(alloc, tables, theorem)
 }

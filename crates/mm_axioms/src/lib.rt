@@ -22,7 +22,9 @@ mod users;
 
 pub use accepted::accepted_users;
 pub use all_axioms::{all_axioms_text, push_marked};
-pub use asked_axioms::{all_users, axioms, chain, direct_users, essential_axioms, tables};
+pub use asked_axioms::{
+    all_users, axioms, axioms_at, chain, direct_users, essential_axioms, tables,
+};
 pub use bits::index_of;
 pub use chains::ChainFault;
-pub use report::{Report, Tables, is_founded};
+pub use report::{Report, Tables, is_founded, is_marked};

@@ -8,7 +8,7 @@ ghost use Rattle.mm_rules.specs.Conclusion.{ProofUses};
 ghost use Rattle.mm_rules.specs.Rests.{AreRising, AreInOrder, RestsOn};
 ghost use Rattle.mm_rules.specs.Mirror.Marks.{IsMarked, UsedIn, AreBackward, IsAxiomNumber};
 ghost use Rattle.mm_axioms.specs.Mirror.Shortening.{AreFounded};
-ghost use Rattle.mm_axioms.specs.Mirror.Tables.{IsOfKind, AreTables, IsReportIn};
+ghost use Rattle.mm_axioms.specs.Mirror.Tables.{AreReached, IsOfKind, AreTables, IsReportIn};
 ghost use Rattle.mm_frame.specs.Taken.{kind_behind};
 ghost use Rattle.mm_base.specs.declared.statement.Kind.TheVariants.{Provable};
 
@@ -27,7 +27,7 @@ pub struct Report {
 }
 
 /// Whether a number is marked.
-pub(crate) fn is_marked(marks: &[bool], id: LabelId) -> bool
+pub fn is_marked(marks: &[bool], id: LabelId) -> bool
     ensures { result ≡ slice_index_or marks.now id.0 false }
 {
     match marks.get(id.0 as usize) {
@@ -198,6 +198,19 @@ pub(crate) fn tables_of(
         axiom_rows,
         unproved_rows,
     })
+}
+
+/// The axioms that a theorem depends on, as the tables tell them.
+pub(crate) fn axioms_in(
+    alloc: Global,
+    tables: &Tables,
+    theorem: LabelId,
+) -> Result<Vec<LabelId>, AllocError>
+    requires { AreRising (map (λ l. l.0) tables.now.axioms.items) }
+    ensures { IfOk result (λ ids. AreReached (map (λ l. l.0) tables.now.axioms.items)
+        tables.now.axiom_rows theorem.0 (map (λ l. l.0) ids.items)) }
+{
+    reached(alloc, &tables.axioms, &tables.axiom_rows, theorem)
 }
 
 /// What a theorem depends on, as the tables tell it.

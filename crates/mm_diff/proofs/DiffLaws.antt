@@ -4,7 +4,6 @@
 use Rattle.std.proofs.Common.{◌≡◌, ℕ, List, [], ◌∷◌, Some, take, slice_get, inl, inr, refl, sym}
 use Rattle.std.proofs.Common.{ap, subst, ◌∙◌, arith}
 use Rattle.mm_base.specs.Statement.{PlainStatement}
-use Rattle.mm_base.proofs.Lists.{contains_from_at}
 use Rattle.mm_frame.specs.Frame.{AreMandatory, IsMandatoryAt}
 use Rattle.mm_frame.specs.Numbers.{IsNumbered}
 use Rattle.mm_frame.specs.Rules.{AllMeant}
@@ -16,13 +15,16 @@ use Rattle.mm_rules.specs.Rests.{AreInOrder, HasTree}
 use Rattle.mm_rules.specs.Verdict.{sentences}
 use Rattle.mm_verdict.proofs.Questions.AskedTheorems.{one_tree}
 use Rattle.mm_axioms.proofs.Resting.RestsOn.{in_order_once}
-use Rattle.mm_diff.specs.Diff.{AreAlike, AreRenamed, HasPlaces, HaveTurned, IsAlone}
+use Rattle.mm_diff.specs.Diff.{AreAlike, AreRenamed, AreTold, DependsFurther, DependsLess}
+use Rattle.mm_diff.specs.Diff.{HasPlaces, HaveTurned, IsAlone, IsFurther, IsOne, IsOneTheorem}
 use Rattle.mm_diff.specs.Diff.{IsAssertionNamed, IsChanged, IsMissing, IsMoved}
 use Rattle.mm_diff.specs.Diff.{IsReproved, IsShared}
 use Rattle.mm_diff.specs.Diff.{PlainChanges, TellsChanges}
 use Rattle.mm_diff.specs.Diff.{changes_text, changes_status, no_changes}
 use Rattle.mm_diff.specs.Laws.{HaveSameTrees, TellsNothing}
 use Rattle.mm_diff.proofs.DifferingNumbers.{one_number}
+use Rattle.mm_diff.proofs.FurtherAxioms.{none_so}
+use Rattle.mm_diff.proofs.ToldDependences.{flipped, further_carries, less_carries, never_further}
 use Rattle.mm_diff.proofs.MovedPlaces.{one_index}
 
 -- an assertion says what it says
@@ -68,12 +70,6 @@ never_reproved old new id meant same
     let other : HasTree old id j u = subst (λ (k : ℕ). HasTree old k j u) one has_too in
     apart (one_tree old id i j t u meant ((same.trees id i t).1 has) other).1
 
--- numbers of which each is so are none, where none is so
-none_so : (P : ℕ → Type 0) (ids : List ℕ) → AreInOrder P ids → ((n : ℕ) → ¬ (P n)) → ids ≡ []
-none_so P [] order none = refl
-none_so P (n ∷ ids) order none =
-    absurd (none n ((order.each n).0 (contains_from_at (n ∷ ids) n (0, refl))))
-
 never_renamed : (st : List Sentence) (pairs : List (ℕ × ℕ)) → AreRenamed st st pairs → pairs ≡ []
 never_renamed st [] are = refl
 never_renamed st (p ∷ pairs) are = absurd (never_alone st p.1 are.each.0.0.0)
@@ -100,36 +96,64 @@ never_moved st id meant moved =
     (one_place st id moved.was moved.is meant moved.places)
     (one_place st moved.other moved.other_was moved.other_is meant moved.other_places) moved.turned
 
-flipped : (statements others : List PlainStatement) → HaveSameTrees statements others
-    → HaveSameTrees others statements
-flipped statements others same = record {
-  said = sym same.said;
-  trees = λ id index t. ((same.trees id index t).1, (same.trees id index t).0);
-}
+-- a theorem of one database, where both say the same, is one with itself alone
+one_itself : (st : List Sentence) (id n : ℕ) → AllMeant st → IsOne st st id n → n ≡ id
+one_itself st id n meant (inl (label, here, there)) = one_number st label n id meant there here
+one_itself st id n meant (inr both) = absurd (never_alone st id both.1.0)
+
+module _ (old new : List PlainStatement) (meant : AllMeant (sentences old))
+    (same : HaveSameTrees old new) where
+  paired_itself : (id former : ℕ) → IsOneTheorem new old id former → former ≡ id
+  paired_itself id former (one, theorem, other) =
+      one_itself (sentences old) id former meant
+      (subst (λ (ss : List Sentence). IsOne ss (sentences old) id former) (sym same.said) one)
+
+  never_tells_further : (id : ℕ) (axioms : List ℕ) → ¬ (DependsFurther old new id axioms)
+  never_tells_further id axioms (former, pair, order, some) =
+      some (none_so (IsFurther new old id former) axioms order (λ n further.
+      never_further new old id n (flipped old new same)
+      (subst (λ (k : ℕ). IsFurther new old id k n) (paired_itself id former pair) further)))
+
+  never_tells_less : (id : ℕ) (axioms : List ℕ) → ¬ (DependsLess old new id axioms)
+  never_tells_less id axioms (former, pair, order, some) =
+      some (none_so (IsFurther old new former id) axioms order (λ n further.
+      never_further old new id n same
+      (subst (λ (k : ℕ). IsFurther old new k id n) (paired_itself id former pair) further)))
+
+-- nothing is told where nothing is to be told of any
+never_told : (T : ℕ → List ℕ → Type 0) (told : List (ℕ × List ℕ)) → AreTold T told
+    → ((id : ℕ) (axioms : List ℕ) → ¬ (T id axioms)) → told ≡ []
+never_told T [] are none = refl
+never_told T (p ∷ told) are none = absurd (none p.0 p.1 are.each.0)
 
 -- ---- the law
 
 -- changes of which there is none
 abbrev made : (gone added changed reproved : List ℕ) (renamed : List (ℕ × ℕ)) (moved : List ℕ)
-    → PlainChanges
-made gone added changed reproved renamed moved = record {
+    (further less : List (ℕ × List ℕ)) → PlainChanges
+made gone added changed reproved renamed moved further less = record {
   gone = gone;
   added = added;
   changed = changed;
   reproved = reproved;
   renamed = renamed;
   moved = moved;
+  further = further;
+  less = less;
 }
 
 none_of_each : (c : PlainChanges) → c.gone ≡ [] → c.added ≡ [] → c.changed ≡ [] → c.reproved ≡ []
-    → c.renamed ≡ [] → c.moved ≡ [] → c ≡ no_changes
-none_of_each c gone added changed reproved renamed moved =
-    ap (λ (l : List ℕ). made l c.added c.changed c.reproved c.renamed c.moved) gone
-    ∙ ap (λ (l : List ℕ). made [] l c.changed c.reproved c.renamed c.moved) added
-    ∙ ap (λ (l : List ℕ). made [] [] l c.reproved c.renamed c.moved) changed
-    ∙ ap (λ (l : List ℕ). made [] [] [] l c.renamed c.moved) reproved
-    ∙ ap (λ (l : List (ℕ × ℕ)). made [] [] [] [] l c.moved) renamed
-    ∙ ap (λ (l : List ℕ). made [] [] [] [] [] l) moved
+    → c.renamed ≡ [] → c.moved ≡ [] → c.further ≡ [] → c.less ≡ [] → c ≡ no_changes
+none_of_each c gone added changed reproved renamed moved further less =
+    ap (λ (l : List ℕ).
+    made l c.added c.changed c.reproved c.renamed c.moved c.further c.less) gone
+    ∙ ap (λ (l : List ℕ). made [] l c.changed c.reproved c.renamed c.moved c.further c.less) added
+    ∙ ap (λ (l : List ℕ). made [] [] l c.reproved c.renamed c.moved c.further c.less) changed
+    ∙ ap (λ (l : List ℕ). made [] [] [] l c.renamed c.moved c.further c.less) reproved
+    ∙ ap (λ (l : List (ℕ × ℕ)). made [] [] [] [] l c.moved c.further c.less) renamed
+    ∙ ap (λ (l : List ℕ). made [] [] [] [] [] l c.further c.less) moved
+    ∙ ap (λ (l : List (ℕ × List ℕ)). made [] [] [] [] [] [] l c.less) further
+    ∙ ap (λ (l : List (ℕ × List ℕ)). made [] [] [] [] [] [] [] l) less
 
 pub tells_nothing : TellsNothing
 tells_nothing old new text status meant same told =
@@ -153,7 +177,11 @@ tells_nothing old new text status meant same told =
     told.are.are_renamed))
     (none_so (IsMoved st st) c.moved
     (subst (λ (ss : List Sentence). AreInOrder (IsMoved st ss) c.moved) (sym same.said)
-    told.are.are_moved) (λ n. never_moved st n meant)) in (
+    told.are.are_moved) (λ n. never_moved st n meant))
+    (never_told (DependsFurther old new) c.further told.are.are_further
+    (never_tells_further old new meant same))
+    (never_told (DependsLess old new) c.less told.are.are_less
+    (never_tells_less old new meant same)) in (
       told.said ∙ ap (changes_text (labels_in st) (labels_in (sentences new))) nothing,
       told.ends ∙ ap changes_status nothing,
     )
@@ -194,6 +222,9 @@ tells_carried old olds new news text status before after told = record {
     };
     are_renamed = rw (before.said, after.said) at told.are.are_renamed;
     are_moved = rw (before.said, after.said) at told.are.are_moved;
+    are_further =
+        further_carries old olds new news before after told.changes.further told.are.are_further;
+    are_less = less_carries old olds new news before after told.changes.less told.are.are_less;
   };
   said = rw (before.said, after.said) at told.said;
   ends = told.ends;

@@ -20,13 +20,16 @@ use Rattle.mm_rules.specs.declared.fault.CheckFault.TheVariants as check
 use Rattle.mm_rules.specs.Verdict.{HasVerdict, Load, Refused, sentences}
 use Rattle.mm_verdict.specs.Reply.{Tells, status_of}
 use Rattle.mm_verdict.proofs.Verdicts.AcceptedStatements.{KeptWell, read_statements}
+use Rattle.mm_verdict.proofs.Verdicts.StatementByStatement.{all_meant}
 use Rattle.mm_diff.specs.declared.database.Database.{Database}
-use Rattle.mm_diff.specs.Diff.{AreRenamed, IsAssertionNamed, IsChanged, IsMissing, IsMoved}
+use Rattle.mm_diff.specs.Diff.{AreRenamed, AreTold, IsAssertionNamed, IsChanged, IsMissing, IsMoved}
 use Rattle.mm_diff.specs.Diff.{IsRenamed, PlainChanges, changes_status, changes_text}
 use Rattle.mm_diff.specs.Reply.{AreRefused, HaveYes, IsRefusal, IsReplyBeside, IsDiffReply}
 use Rattle.mm_diff.specs.Mirror.Databases.{AreChangesIn, AreReproved, TellsChangesIn}
 use Rattle.mm_diff.specs.Mirror.Changes.{AreWithin}
+use Rattle.mm_diff.specs.Mirror.Depends.{TellsFurther, TellsLess}
 use Rattle.mm_diff.specs.Mirror.Outcomes.{IsOfFiles}
+use Rattle.mm_diff.proofs.ToldDependences.{further_told, further_within, less_told, less_within}
 
 -- ---- files that don't get yes
 
@@ -173,13 +176,19 @@ pub record AreKeptChanges (c d : Conclusion) (changes : PlainChanges) : Type 0 w
   pub are_reproved : AreReproved d c changes.reproved
   pub are_renamed : AreRenamed c.sentences d.sentences changes.renamed
   pub are_moved : AreInOrder (IsMoved c.sentences d.sentences) changes.moved
+  pub are_further : AreTold (TellsFurther c d) changes.further
+  pub are_less : AreTold (TellsLess c d) changes.less
 
 -- all changes
 pub changes_told : (c d : Conclusion) (changes : PlainChanges) → KeptWell c → KeptWell d
     → AreKeptChanges c d changes → AreChangesIn c d changes
 changes_told c d changes well well_too kept before after reads reads_too =
-    let here = (read_statements c before well.origin reads).kept.sentences in
-    let there = (read_statements d after well_too.origin reads_too).kept.sentences in
+    let own = read_statements c before well.origin reads in
+    let own_too = read_statements d after well_too.origin reads_too in
+    let here = own.kept.sentences in
+    let there = own_too.kept.sentences in
+    let meant = all_meant c.profile before own.accepted.obeyed in
+    let meant_too = all_meant d.profile after own_too.accepted.obeyed in
     record {
       are_gone = rw (here, there) at kept.are_gone;
       are_added = rw (here, there) at kept.are_added;
@@ -187,6 +196,12 @@ changes_told c d changes well well_too kept before after reads reads_too =
       are_reproved = kept.are_reproved after before reads_too reads;
       are_renamed = rw (here, there) at kept.are_renamed;
       are_moved = rw (here, there) at kept.are_moved;
+      are_further =
+          further_told c d before after own.kept own_too.kept meant meant_too changes.further
+          kept.are_further;
+      are_less =
+          less_told c d before after own.kept own_too.kept meant meant_too changes.less
+          kept.are_less;
     }
 
 -- their numbers are those of labels
@@ -208,6 +223,8 @@ changes_within c d changes well well_too kept = record {
   moved =
       named_within d (IsMoved c.sentences d.sentences) changes.moved kept.are_moved
       (λ n moved. let (place, label, named, former, there, was) = moved.places in (label, named));
+  further = further_within c d changes.further kept.are_further;
+  less = less_within c d changes.less kept.are_less;
 }
 
 -- the text and the status of them

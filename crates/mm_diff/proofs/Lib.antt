@@ -11,6 +11,10 @@ pub mod ProofWords
 pub mod CheckedTheorems
 pub mod RenamedLabels
 pub mod MovedPlaces
+pub mod OneAssertions
+pub mod StayingTheorems
+pub mod FurtherAxioms
+pub mod ToldDependences
 pub mod DiffLines
 pub mod DiffReplies
 pub mod DiffLaws

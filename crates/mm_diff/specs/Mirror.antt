@@ -8,3 +8,5 @@ pub mod Steps
 pub mod Databases
 pub mod Outcomes
 pub mod Changes
+pub mod Twins
+pub mod Depends

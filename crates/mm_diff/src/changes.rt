@@ -8,6 +8,7 @@ ghost use Rattle.mm_diff.specs.Diff.{AreRenamed, IsMissing};
 ghost use Rattle.mm_diff.specs.Mirror.Changes.{AreWithin, plain_changes, plain_renaming};
 ghost use Rattle.mm_diff.specs.Mirror.Databases.{AreChangesIn, IsComplete};
 
+use crate::depends::{Dependence, Dependences, dependences_between};
 use crate::differences::{Difference, those_that_differ};
 use crate::homes::Home;
 use crate::moved::those_moved;
@@ -32,6 +33,10 @@ pub(crate) struct Changes {
     pub renamed: Vec<Renaming>,
     /// In the new one, those that were moved.
     pub moved: Vec<LabelId>,
+    /// In the new one, the theorems that depend on further axioms, and these.
+    pub further: Vec<Dependence>,
+    /// In the new one, the theorems that depend on fewer axioms, and in the old one the others.
+    pub less: Vec<Dependence>,
 }
 
 /// Which labels changed.
@@ -84,6 +89,8 @@ pub(crate) fn changes_between(
     let changed = those_that_differ(alloc, Difference::Changed, &new.book, &old.book)?;
     let reproved = those_reproved(alloc, new, new_homes, old, old_homes)?;
     let moved = those_moved(alloc, &old.book, &new.book)?;
+    let dependences = dependences_between(alloc, old, new, &labels.renamed)?;
+    let Dependences { further, less } = dependences;
     let Labels {
         gone,
         added,
@@ -96,5 +103,7 @@ pub(crate) fn changes_between(
         reproved,
         renamed,
         moved,
+        further,
+        less,
     })
 }

@@ -36,7 +36,7 @@ fn have_same_names(old: &Book, one: &[Sym], new: &Book, other: &[Sym]) -> bool
 }
 
 /// Whether two kinds are the same.
-fn is_same_kind(kind: LabelKind, other: LabelKind) -> bool
+pub(crate) fn is_same_kind(kind: LabelKind, other: LabelKind) -> bool
     ensures { IsTrue result ↔ (kind ≡ other) }
 {
     kind == other

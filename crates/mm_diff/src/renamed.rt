@@ -69,7 +69,7 @@ fn only_alike(
 }
 
 /// Whether two numbers are the same.
-fn is_same(id: LabelId, other: LabelId) -> bool
+pub(crate) fn is_same(id: LabelId, other: LabelId) -> bool
     ensures { IsTrue result ↔ (id.0 ≡ other.0) }
 {
     id == other

@@ -45,12 +45,20 @@ fn are_named_alike(changes: &Changes) -> bool
         && changes.renamed.is_empty()
 }
 
+/// Whether no assertion was moved, and no theorem depends on other axioms.
+fn are_placed_alike(changes: &Changes) -> bool
+    ensures { IsTrue result ↔ (length changes.now.moved.items + length changes.now.further.items
+        + length changes.now.less.items ≡ 0) }
+{
+    changes.moved.is_empty() && changes.further.is_empty() && changes.less.is_empty()
+}
+
 /// Whether nothing changed.
 fn are_none(changes: &Changes) -> bool
     ensures { IsTrue result ↔ (total (plain_changes changes.now) ≡ 0) }
 {
     if are_named_alike(changes) {
-        changes.moved.is_empty()
+        are_placed_alike(changes)
     } else {
         false
     }
@@ -170,8 +178,10 @@ fn reply_beside(
 /// first: a line `G LABEL` for each assertion that is gone, in the order of the old database, then
 /// `A LABEL` for each that was added, `C LABEL` for each that says something else, `P LABEL` for
 /// each that says the same, but whose proof spells another tree, `R OLD NEW` for each that is
-/// renamed and `M LABEL` for each that was moved, in the order of the new one, and a line with the
-/// sums. The status is 0 where nothing changed, else 1.
+/// renamed and `M LABEL` for each that was moved, in the order of the new one; then `F LABEL AXIOM..`
+/// for each theorem of both that depends further on these axioms, `L LABEL AXIOM..` for each that
+/// depends on these no longer, and a line with the sums. The status is 0 where nothing changed,
+/// else 1.
 ///
 /// An assertion says something else where its kind or expression is another, an expression or the
 /// kind of a mandatory hypothesis, or a mandatory distinct pair. Labels of hypotheses don't count.

@@ -530,8 +530,9 @@ const DIFF: &str = "Usage: mm diff OLD NEW
 
 Checks two versions of a database, the old one first, and tells by label what
 changed: which axioms and theorems, `$a` and `$p`, are gone, were added, say
-something else, have another proof, got another label, or were moved. Each
-version is a file, or several, its top file first.
+something else, have another proof, got another label, or were moved; and which
+theorems depend on further axioms, or on fewer. Each version is a file, or
+several, its top file first.
 
 Two say the same if both are axioms or both theorems, and have the same
 expression, the same mandatory hypotheses in the same order, whatever their
@@ -540,7 +541,8 @@ make the same tree, whatever their form. Comments don't count.
 
 One that is gone and one that was added are told as renamed where each of them
 alone says the same as the other. One was moved where it passed another that is
-no further from its place than it is itself.
+no further from its place than it is itself. What is renamed, theorem or axiom,
+is compared under both labels.
 
 Replies:
   G LABEL, A LABEL, C LABEL or P LABEL, one on each line            status 1
@@ -548,7 +550,11 @@ Replies:
       unchanged with another proof, each in the order of the new one.
   R OLD NEW or M LABEL, one on each line                            status 1
       Then renamed, and then moved, in the order of the new version.
-  differ N gone N added N changed N reproved N renamed N moved      status 0, 1
+  F LABEL AXIOM.. or L LABEL AXIOM.., one on each line              status 1
+      Then the theorems of both versions that depend further on these axioms of
+      the new one, and those that depend no longer on these of the old one.
+  differ N gone N added N changed N reproved N renamed N moved
+  N further N less                                                  status 0, 1
       The last line, with the sums: status 0 where nothing differs.
   no, incomplete, limit or load                                  status 1, 3, 4
       A version doesn't get yes, and this is what `mm check` replies to it: to

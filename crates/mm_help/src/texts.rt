@@ -245,8 +245,11 @@ Replies of diff, on standard output:
       The axioms and theorems that are gone, then those that were added, then those that say
       something else, then those that have another proof.
   R OLD NEW or M LABEL, one on each line
-      Then those that are renamed, and those that were moved. At the end the sums: differ N gone
-      N added N changed N reproved N renamed N moved. Status 0 where nothing differs, else 1.
+      Then those that are renamed, and those that were moved.
+  F LABEL AXIOM.. or L LABEL AXIOM.., one on each line
+      Then the theorems that depend further on these axioms, and those that depend on these no
+      longer. At the end the sums: differ N gone N added N changed N reproved N renamed N moved
+      N further N less. Status 0 where nothing differs, else 1.
   Where a version doesn't get yes: the reply of check, with its status; the old one comes first.
 
 Other replies to a LABEL: that of check, where it is no, limit or load; and

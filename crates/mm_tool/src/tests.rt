@@ -470,7 +470,7 @@ fn notes_a_file_that_was_not_included(rt: HostRuntime) {
 }
 
 /// The reply to two versions of which the statements say the same.
-const NONE: &[u8] = b"differ 0 gone 0 added 0 changed 0 reproved 0 renamed 0 moved\n";
+const NONE: &[u8] = b"differ 0 gone 0 added 0 changed 0 reproved 0 renamed 0 moved 0 further 0 less\n";
 
 // The packed form of a file is a version in which nothing changed. Each version is a database of its
 // own.
@@ -492,13 +492,13 @@ fn tells_what_changed(rt: HostRuntime) {
         (
             ["mm", "diff", "first.mm", "less.mm"].as_slice(),
             1,
-            b"G tpl\nC th\ndiffer 1 gone 0 added 1 changed 0 reproved 0 renamed 0 moved\n".as_slice(),
+            b"G tpl\nC th\ndiffer 1 gone 0 added 1 changed 0 reproved 0 renamed 0 moved 0 further 0 less\n".as_slice(),
             b"".as_slice(),
         ),
         (
             ["mm", "diff", "less.mm", "first.mm"].as_slice(),
             1,
-            b"A tpl\nC th\ndiffer 0 gone 1 added 1 changed 0 reproved 0 renamed 0 moved\n".as_slice(),
+            b"A tpl\nC th\ndiffer 0 gone 1 added 1 changed 0 reproved 0 renamed 0 moved 0 further 0 less\n".as_slice(),
             b"".as_slice(),
         ),
         (

@@ -106,7 +106,7 @@ proved_at statements c label id kept (index, t, numbered, kind) none there =
     (index, s, at, proof_or_not s.kind (is_incomplete (proof_of s)) provable (λ unproved. none ((kept.incomplete.each id).1 (index, s, at, unproved)))) there
 
 -- what stands in the row of a theorem is what it rests on
-rests_in : (P : ℕ → Type 0) (uses : List ProofUses) (numbers : List ℕ) (rows : PlainRows) (id : ℕ) (ids : List ℕ)
+pub rests_in : (P : ℕ → Type 0) (uses : List ProofUses) (numbers : List ℕ) (rows : PlainRows) (id : ℕ) (ids : List ℕ)
     → ((n : ℕ) → Contains numbers n ↔ P n) → TellRests uses numbers rows → AreReached numbers rows id ids
     → AreInOrder (λ n. P n × RestsOn (UsedIn uses) id n) ids
 rests_in P uses numbers rows id ids holds tell order = in_order_same _ _ ids order (λ n. (

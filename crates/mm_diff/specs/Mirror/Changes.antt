@@ -2,15 +2,25 @@
 -- mirrors the code, and is cited by private contracts alone.
 use Rattle.std.specs.Prelude.{◌≡◌, ◌<◌, ◌≤◌, ℕ, List, map, length, slice_get, Some, ◌++◌}
 use Rattle.std.specs.Prelude.{codes, decimal}
-use Rattle.std.specs.List.{AllByRecursion}
+use Rattle.std.specs.List.{AllByRecursion, flat_map}
 use Rattle.mm_frame.specs.Sentence.{Sentence}
 use Rattle.mm_diff.specs.declared.renamed.Renaming.{Renaming}
 use Rattle.mm_diff.specs.declared.changes.Changes.{Changes}
+use Rattle.mm_diff.specs.declared.depends.Dependence.{Dependence}
 use Rattle.mm_diff.specs.Diff.{HaveTurned, IsAssertionNamed, PlainChanges, distance}
 
 -- the numbers of one that is renamed, in the other database and in its own
 abbrev pub plain_renaming : Renaming → ℕ × ℕ
 plain_renaming r = (r.other.0, r.id.0)
+
+-- the number of a theorem, and those of axioms
+abbrev pub plain_dependence : Dependence → ℕ × List ℕ
+plain_dependence d = (d.theorem.0, map (λ l. l.0) d.axioms.items)
+
+-- the number of a theorem is that of a label, and so are those of its axioms
+abbrev pub AreNumbersOf : (labels axiom_labels : List (List ℕ)) → ℕ × List ℕ → Type 0
+AreNumbersOf labels axiom_labels p =
+    (p.0 < length labels) × AllByRecursion (λ n. n < length axiom_labels) p.1
 
 -- the numbers of those that changed
 abbrev pub plain_changes : Changes → PlainChanges
@@ -21,6 +31,8 @@ plain_changes c = record {
   reproved = map (λ l. l.0) c.reproved.items;
   renamed = map plain_renaming c.renamed.items;
   moved = map (λ l. l.0) c.moved.items;
+  further = map plain_dependence c.further.items;
+  less = map plain_dependence c.less.items;
 }
 
 -- each of the numbers is that of a label
@@ -31,6 +43,12 @@ pub record AreWithin (old new : List (List ℕ)) (c : PlainChanges) : Type 0 whe
   pub reproved : AllByRecursion (λ n. n < length new) c.reproved
   pub renamed : AllByRecursion (λ p. (p.0 < length old) × (p.1 < length new)) c.renamed
   pub moved : AllByRecursion (λ n. n < length new) c.moved
+  pub further : AllByRecursion (AreNumbersOf new new) c.further
+  pub less : AllByRecursion (AreNumbersOf new old) c.less
+
+-- a space and the label, for each
+abbrev pub spaced_labels : List (List ℕ) → List ℕ
+spaced_labels labels = flat_map (λ label. codes " " ++ label) labels
 
 -- a number, and a word behind it
 abbrev pub sum_words : (count : ℕ) → (word : List ℕ) → List ℕ

@@ -26,10 +26,16 @@ th $p c $= ( x a b ) ABZDC $.
 ";
 
 /// The reply where nothing changed.
-const NONE: &[u8] = b"differ 0 gone 0 added 0 changed 0 reproved 0 renamed 0 moved\n";
+const NONE: &[u8] =
+    b"differ 0 gone 0 added 0 changed 0 reproved 0 renamed 0 moved 0 further 0 less\n";
 
 /// Four axioms, none of which says what another says.
 const FOUR: &[u8] = b"$c p q r s $. a $a p $. b $a q $. d $a r $. e $a s $.\n";
+
+/// Two theorems, of which the second depends on the axioms `a` and `r`.
+const DEPENDING: &[u8] = b"$c p q $. a $a p $. c $a p $. ${ e $e p $. r $a q $. $}
+t $p p $= a $. u $p q $= t r $.
+";
 
 /// Two versions, what is told of them, and the status.
 #[derive(Clone, Copy)]
@@ -83,6 +89,22 @@ th1 $p |- p -> p $= ( ax2 ) AB $.
             text: b"incomplete 1\nth1\n",
             status: Status::Incomplete,
         },
+        Version {
+            old: OLD,
+            new: b"$c a $. th1 $p a $= no $.\n",
+            text: b"no new.mm 1 th1 P2 0\n",
+            status: Status::Refused,
+        },
+    ] {
+        assert!(rt; is_told(rt.alloc(), &version)?);
+    }
+    no_change();
+    Ok(())
+}
+
+#[test]
+fn tells_changed_statements(rt: HostRuntime) -> Result<(), Fail> {
+    for version in [
         // The order of `$f` is that of what a step asks for: so wi is another, and so are all.
         Version {
             old: OLD,
@@ -93,7 +115,7 @@ ${ $d p q $. ax1 $a |- p -> q $. $}
 ax2 $a |- p -> p $.
 th1 $p |- p -> p $= wp ax2 $.
 ",
-            text: b"C wi\nC mp\nC ax1\ndiffer 0 gone 0 added 3 changed 0 reproved 0 renamed 0 moved\n",
+            text: b"C wi\nC mp\nC ax1\ndiffer 0 gone 0 added 3 changed 0 reproved 0 renamed 0 moved 0 further 0 less\n",
             status: Status::Refused,
         },
         // One is gone, two are added, and each of the others is changed in another way.
@@ -107,19 +129,12 @@ ax2 $a |- q -> q $.
 th1 $a |- p -> p $.
 th2 $p |- q -> q $= wq ax2 $.
 ",
-            text: b"G wi\nA wj\nA th2\nC mp\nC ax1\nC ax2\nC th1\ndiffer 1 gone 2 added 4 changed 0 reproved 0 renamed 0 moved\n",
-            status: Status::Refused,
-        },
-        Version {
-            old: OLD,
-            new: b"$c a $. th1 $p a $= no $.\n",
-            text: b"no new.mm 1 th1 P2 0\n",
+            text: b"G wi\nA wj\nA th2\nC mp\nC ax1\nC ax2\nC th1\ndiffer 1 gone 2 added 4 changed 0 reproved 0 renamed 0 moved 0 further 0 less\n",
             status: Status::Refused,
         },
     ] {
         assert!(rt; is_told(rt.alloc(), &version)?);
     }
-    no_change();
     Ok(())
 }
 
@@ -136,7 +151,7 @@ ${ $d p q $. ax1 $a |- p -> q $. $}
 ax2 $a |- p -> p $. ax3 $a |- p -> p $.
 th1 $p |- p -> p $= vp ax3 $.
 ",
-            text: b"A ax3\nP th1\ndiffer 0 gone 1 added 0 changed 1 reproved 0 renamed 0 moved\n",
+            text: b"A ax3\nP th1\nF th1 ax3\nL th1 ax2\ndiffer 0 gone 1 added 0 changed 1 reproved 0 renamed 0 moved 1 further 1 less\n",
             status: Status::Refused,
         },
         // Neither form nor sharing counts, nor comments in a proof, nor numbers of labels.
@@ -156,7 +171,7 @@ th $p c $= x $( a $) a x a b $.
 ${ g $e c $. h $e c $. b $a c $. $}
 th $p c $= ( x a b ) AZBDC $.
 ",
-            text: b"P th\ndiffer 0 gone 0 added 0 changed 1 reproved 0 renamed 0 moved\n",
+            text: b"P th\ndiffer 0 gone 0 added 0 changed 1 reproved 0 renamed 0 moved 0 further 0 less\n",
             status: Status::Refused,
         },
         // The same labels in the same order make another tree.
@@ -169,7 +184,7 @@ th $p c $= x x a b $.
 ${ h $e c $. b $a c $. $}
 th $p c $= x x a b $.
 ",
-            text: b"C a\nC b\nP th\ndiffer 0 gone 0 added 2 changed 1 reproved 0 renamed 0 moved\n",
+            text: b"C a\nC b\nP th\ndiffer 0 gone 0 added 2 changed 1 reproved 0 renamed 0 moved 0 further 0 less\n",
             status: Status::Refused,
         },
     ] {
@@ -185,21 +200,21 @@ fn tells_other_labels(rt: HostRuntime) -> Result<(), Fail> {
         Version {
             old: FOUR,
             new: b"$c p q r s $. a $a p $. c $a q $. d $a r $. f $a s s $.\n",
-            text: b"G e\nA f\nR b c\ndiffer 1 gone 1 added 0 changed 0 reproved 1 renamed 0 moved\n",
+            text: b"G e\nA f\nR b c\ndiffer 1 gone 1 added 0 changed 0 reproved 1 renamed 0 moved 0 further 0 less\n",
             status: Status::Refused,
         },
         // Of two that say the same none is renamed.
         Version {
             old: FOUR,
             new: b"$c p q r s $. a $a p $. c $a q $. cc $a q $. d $a r $. e $a s $.\n",
-            text: b"G b\nA c\nA cc\ndiffer 1 gone 2 added 0 changed 0 reproved 0 renamed 0 moved\n",
+            text: b"G b\nA c\nA cc\ndiffer 1 gone 2 added 0 changed 0 reproved 0 renamed 0 moved 0 further 0 less\n",
             status: Status::Refused,
         },
         // One that keeps its label isn't renamed, though a new one says the same.
         Version {
             old: FOUR,
             new: b"$c p q r s $. a $a p $. b $a q $. c $a q $. d $a r $. e $a s $.\n",
-            text: b"A c\ndiffer 0 gone 1 added 0 changed 0 reproved 0 renamed 0 moved\n",
+            text: b"A c\ndiffer 0 gone 1 added 0 changed 0 reproved 0 renamed 0 moved 0 further 0 less\n",
             status: Status::Refused,
         },
     ] {
@@ -215,20 +230,65 @@ fn tells_other_places(rt: HostRuntime) -> Result<(), Fail> {
         Version {
             old: FOUR,
             new: b"$c p q r s $. b $a q $. d $a r $. a $a p $. e $a s $.\n",
-            text: b"M a\ndiffer 0 gone 0 added 0 changed 0 reproved 0 renamed 1 moved\n",
+            text: b"M a\ndiffer 0 gone 0 added 0 changed 0 reproved 0 renamed 1 moved 0 further 0 less\n",
             status: Status::Refused,
         },
         Version {
             old: FOUR,
             new: b"$c p q r s $. e $a s $. a $a p $. b $a q $. d $a r $.\n",
-            text: b"M e\ndiffer 0 gone 0 added 0 changed 0 reproved 0 renamed 1 moved\n",
+            text: b"M e\ndiffer 0 gone 0 added 0 changed 0 reproved 0 renamed 1 moved 0 further 0 less\n",
             status: Status::Refused,
         },
         // Two that change places are both told; what is added between others moves none.
         Version {
             old: FOUR,
             new: b"$c p q r s $. b $a q $. a $a p $. n $a p p $. d $a r $. e $a s $.\n",
-            text: b"A n\nM b\nM a\ndiffer 0 gone 1 added 0 changed 0 reproved 0 renamed 2 moved\n",
+            text: b"A n\nM b\nM a\ndiffer 0 gone 1 added 0 changed 0 reproved 0 renamed 2 moved 0 further 0 less\n",
+            status: Status::Refused,
+        },
+    ] {
+        assert!(rt; is_told(rt.alloc(), &version)?);
+    }
+    Ok(())
+}
+
+#[test]
+fn tells_other_axioms(rt: HostRuntime) -> Result<(), Fail> {
+    for version in [
+        // What depends on it through another theorem is told too.
+        Version {
+            old: DEPENDING,
+            new: b"$c p q $. a $a p $. c $a p $. ${ e $e p $. r $a q $. $}
+t $p p $= c $. u $p q $= t r $.
+",
+            text: b"P t\nF t c\nF u c\nL t a\nL u a\ndiffer 0 gone 0 added 0 changed 1 reproved 0 renamed 0 moved 2 further 2 less\n",
+            status: Status::Refused,
+        },
+        // What is renamed is the same, be it a theorem or an axiom on which one depends.
+        Version {
+            old: DEPENDING,
+            new: b"$c p q $. a $a p $. c $a p $. ${ e $e p $. s $a q $. $}
+t $p p $= a $. v $p q $= t s $.
+",
+            text: b"R r s\nR u v\ndiffer 0 gone 0 added 0 changed 0 reproved 2 renamed 0 moved 0 further 0 less\n",
+            status: Status::Refused,
+        },
+        // A theorem that is renamed is compared with the one that it was.
+        Version {
+            old: DEPENDING,
+            new: b"$c p q $. a $a p $. c $a p $. ${ e $e p $. r $a q $. $}
+t $p p $= a $. s $a q $. v $p q $= s $.
+",
+            text: b"A s\nR u v\nF v s\nL v a r\ndiffer 0 gone 1 added 0 changed 0 reproved 1 renamed 0 moved 1 further 1 less\n",
+            status: Status::Refused,
+        },
+        // Nothing depends on an axiom that is a theorem now; what it depends on is further.
+        Version {
+            old: DEPENDING,
+            new: b"$c p q $. c $a p $. a $p p $= c $. ${ e $e p $. r $a q $. $}
+t $p p $= a $. u $p q $= t r $.
+",
+            text: b"C a\nM c\nM a\nF t c\nF u c\nL t a\nL u a\ndiffer 0 gone 0 added 1 changed 0 reproved 0 renamed 2 moved 2 further 2 less\n",
             status: Status::Refused,
         },
     ] {

@@ -49,6 +49,14 @@ those_moved-requires-clause-new_meant c =
     subst AllMeant (sym (ap (λ (v : Conclusion). v.sentences) c.new.view_is))
     (kept_meant c.args.new.now (subst KeptWell c.new.view_is c.new.invariant))
 
+pub dependences_between-requires : goal.dependences_between-requires
+dependences_between-requires c =
+    rw (
+      ap (λ (v : Conclusion). v.sentences) c.old.view_is,
+      ap (λ (v : Conclusion). v.sentences) c.new.view_is,
+      ← c.deref.ensures.value,
+    ) at c.in_ok-labels.ensures.renamed
+
 pub returns-clause-changes : goal.returns-clause-changes
 returns-clause-changes c =
     let here = ap (λ (v : Conclusion). v.sentences) c.old.view_is in
@@ -61,6 +69,8 @@ returns-clause-changes c =
       are_reproved = c.in_ok-reproved.ensures;
       are_renamed = rw (here, there) at c.in_ok-labels.ensures.renamed;
       are_moved = rw (here, there) at c.in_ok-moved.ensures;
+      are_further = c.in_ok-dependences.ensures.further;
+      are_less = c.in_ok-dependences.ensures.less;
     })
 
 pub returns-clause-within : goal.returns-clause-within
@@ -75,4 +85,6 @@ returns-clause-within c =
       are_reproved = c.in_ok-reproved.ensures;
       are_renamed = rw (here, there) at c.in_ok-labels.ensures.renamed;
       are_moved = rw (here, there) at c.in_ok-moved.ensures;
+      are_further = c.in_ok-dependences.ensures.further;
+      are_less = c.in_ok-dependences.ensures.less;
     })
