@@ -309,6 +309,13 @@ ends 0 'step $a : a => b\n' '' find b --and=a rests.mm --hypotheses
 ends 0 '' '' find 'a b' rests.mm
 ends 0 'tpl $a : term ( t + r )\nth $p : term ( 0 + 0 )\n' '' find '( $? + $* )' first.mm
 ends 0 '' '' find -- -t first.mm
+ends 0 'tpl $a : term ( t + r )\n' '' find --shape '( r + t )' first.mm
+ends 0 'tpl $a : term ( t + r )\n' '' find --whole '( $? + t )' first.mm --shape
+ends 0 '' '' find --shape '( t + t )' first.mm
+refused='mm: --shape takes no $*
+Usage: mm find PATTERN [--and PATTERN].. [--whole] [--shape] [--hypotheses] FILES..\n'
+ends 2 '' "$refused" find --shape '( $* )' first.mm
+ends 2 '' "$refused" find t --and '$*' first.mm --shape
 ends 3 'step\n? open\n' '' axioms --essential half rests.mm
 ends 0 'full\none\n' '' axioms --to one full rests.mm
 ends 0 'full\none\n' '' axioms full rests.mm --to=one
@@ -470,6 +477,7 @@ misused find
 misused find t
 misused find --whole --whole t first.mm
 misused find -t first.mm
+misused find --shape --shape t first.mm
 misused axioms --to tze
 misused axioms --to tze th
 misused axioms --to tze --to tpl th first.mm

@@ -414,7 +414,7 @@ IsStatementReply files label text status =
 abbrev pub AsksHanded : List PlainFile → Command → Type 0
 AsksHanded files (File form number) = number < length files
 AsksHanded files (Shorter number duplicates) = number < length files
-AsksHanded files (Find patterns whole hypotheses) =
+AsksHanded files (Find patterns whole shape hypotheses) =
     AllByRecursion (λ p. length p ≤ most_bytes) (texts patterns.now)
 AsksHanded files command = Unit {0}
 
@@ -443,8 +443,8 @@ IsReplyTo files (File wanted number) text status =
 IsReplyTo files (Shorter number duplicates) text status =
     IsQuestionReply Lenient files (IsAllShortenedReply Lenient duplicates files number) text status
 IsReplyTo files (Lemmas most least) text status = IsLemmasReply most least files text status
-IsReplyTo files (Find patterns whole hypotheses) text status =
-    IsFindReply (query_for (texts patterns.now) whole hypotheses) files text status
+IsReplyTo files (Find patterns whole shape hypotheses) text status =
+    IsFindReply (query_for (texts patterns.now) whole shape hypotheses) files text status
 
 -- The reply's text was put after what the writer held, where that is known.
 abbrev pub Writes : List PlainFile → Command → ℕ → Option (List ℕ) → Option (List ℕ) → Type 0

@@ -106,11 +106,13 @@ pub fn reply_to<W: SearchWatch>(
         Command::Find {
             patterns,
             whole,
+            shape,
             hypotheses,
         } => {
             let sought = Sought {
                 patterns: *patterns,
                 whole: *whole,
+                shape: *shape,
                 hypotheses: *hypotheses,
             };
             find_reply(alloc, seed, files, &sought)

@@ -14,7 +14,7 @@ use Rattle.std.proofs.lemmas.Option.{slice_get-get_or, slice_get_within}
 use Rattle.mm_base.specs.declared.statement.Kind.{Kind}
 use Rattle.mm_base.specs.declared.statement.Kind.TheVariants as kinds
 use Rattle.mm_base.specs.Token.{PlainToken}
-use Rattle.mm_base.specs.Statement.{PlainStatement, HasForm, HasLabel}
+use Rattle.mm_base.specs.Statement.{PlainStatement, HasLabel}
 use Rattle.mm_base.proofs.Lists.{one_there, same_length, take_next}
 use Rattle.mm_frame.specs.declared.answer.Taken.{Taken}
 use Rattle.mm_frame.specs.declared.answer.Taken.TheVariants as taken

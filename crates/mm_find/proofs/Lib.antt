@@ -1,4 +1,6 @@
 pub mod Shapes
+pub mod Variants
+pub mod TypeTables
 pub mod Queries
 pub mod Assertions
 pub mod AssertionLines

@@ -1,4 +1,4 @@
--- Shapes among expressions, one after the other. On this file rests the contract of `is_asked_for`.
+-- Patterns among expressions, one after the other. On this file rests the contract of `is_asked_for`.
 use Rattle.std.proofs.Common.{◌≡◌, ◌↔◌, ◌⊎◌, inl, inr, List, [], ◌∷◌, ℕ, ◌+◌, ◌<◌, ◌≤◌, drop}
 use Rattle.std.proofs.Common.{length, get_or}
 use Rattle.std.proofs.Common.{ap, sym, subst, ◌∙◌, ◌++◌, Bool, true, false}
@@ -8,8 +8,7 @@ use denote.Ref.{Bor}
 use Rattle.std.proofs.lemmas.Bool.{false≢true, true≢false}
 use Rattle.std.proofs.lemmas.List.{drop_more, drop_all, map-append}
 use Rattle.mm_code.specs.Layout.{texts}
-use Rattle.mm_find.specs.Found.{OneHasShape, PlainAssertion, looked_into}
-use Rattle.mm_find.specs.Shape.{HasShape}
+use Rattle.mm_find.specs.Found.{PlainAssertion, SomeExpression, looked_into}
 use Rattle.mm_find.specs.Plain.{expressions_in}
 
 module _ (lists : List (Vec (Bor (List ℕ)))) (i : ℕ) where
@@ -30,19 +29,19 @@ module _ (lists : List (Vec (Bor (List ℕ)))) (i : ℕ) where
         ∙ ap (λ (o : List (Bor (List ℕ))). texts o ∷ expressions_in (drop (i + 1) lists))
         (sym (is ∙ ap (λ (v : Vec (Bor (List ℕ))). v.items) at))
 
-    -- one of those that are left has the shape
-    pub one_met : (shape : List (List ℕ)) (P : Type 0) → HasShape shape (texts own)
-        → (P ↔ OneHasShape rest shape) → P
-    one_met shape P has all =
-        all.1 (subst (λ (es : List (List (List ℕ))). OneHasShape es shape) (sym next) (inl has))
+    -- one of those that are left has the pattern
+    pub one_met : (Q : List (List ℕ) → Type 0) (P : Type 0) → Q (texts own)
+        → (P ↔ SomeExpression Q rest) → P
+    one_met Q P has all =
+        all.1 (subst (λ (es : List (List (List ℕ))). SomeExpression Q es) (sym next) (inl has))
 
-    pub one_unmet : (shape : List (List ℕ)) (P : Type 0) → ¬ (HasShape shape (texts own))
-        → (P ↔ OneHasShape rest shape)
-        → (P ↔ OneHasShape (expressions_in (drop (i + 1) lists)) shape)
-    one_unmet shape P lacks all =
-        let split : P ↔ (HasShape shape (texts own) ⊎ OneHasShape
-        (expressions_in (drop (i + 1) lists)) shape) =
-        subst (λ (es : List (List (List ℕ))). P ↔ OneHasShape es shape) next all in (
+    pub one_unmet : (Q : List (List ℕ) → Type 0) (P : Type 0) → ¬ (Q (texts own))
+        → (P ↔ SomeExpression Q rest)
+        → (P ↔ SomeExpression Q (expressions_in (drop (i + 1) lists)))
+    one_unmet Q P lacks all =
+        let split : P ↔ (Q (texts own) ⊎ SomeExpression Q
+        (expressions_in (drop (i + 1) lists))) =
+        subst (λ (es : List (List (List ℕ))). P ↔ SomeExpression Q es) next all in (
           (λ p. elim (split.0 p) [ inl has ↦ absurd (lacks has) | inr later ↦ later ]),
           (λ later. split.1 (inr later)),
         )
@@ -63,12 +62,12 @@ module _ (lists : List (Vec (Bor (List ℕ)))) (i : ℕ) where
         subst (λ (es : List (List (List ℕ))). AllByRecursion R es) next (all.0 p) in
         lacks split.0
 
-  pub none_met : (shape : List (List ℕ)) (P : Type 0) → length lists ≤ i →
-      (P ↔ OneHasShape rest shape)
+  pub none_met : (Q : List (List ℕ) → Type 0) (P : Type 0) → length lists ≤ i →
+      (P ↔ SomeExpression Q rest)
       → ¬ P
-  none_met shape P end all p =
-      let never : OneHasShape [] shape =
-      subst (λ (es : List (List (List ℕ))). OneHasShape es shape) (past end) (all.0 p) in
+  none_met Q P end all p =
+      let never : SomeExpression Q [] =
+      subst (λ (es : List (List (List ℕ))). SomeExpression Q es) (past end) (all.0 p) in
       never
 
   pub all_met : (R : List (List ℕ) → Type 0) (P : Type 0) → length lists ≤ i →
@@ -79,21 +78,21 @@ module _ (lists : List (Vec (Bor (List ℕ)))) (i : ℕ) where
 
 -- ---- the expressions that are looked into
 
-module _ (a : PlainAssertion) (shape : List (List ℕ)) where
-  pub first_met : (hypotheses : Bool) → HasShape shape a.expression
-      → OneHasShape (looked_into hypotheses a) shape
+module _ (a : PlainAssertion) (Q : List (List ℕ) → Type 0) where
+  pub first_met : (hypotheses : Bool) → Q a.expression
+      → SomeExpression Q (looked_into hypotheses a)
   first_met true has = inl has
   first_met false has = inl has
 
-  pub none_looked : (hypotheses : Bool) → hypotheses ≡ false → ¬ (HasShape shape a.expression)
-      → ¬ (OneHasShape (looked_into hypotheses a) shape)
+  pub none_looked : (hypotheses : Bool) → hypotheses ≡ false → ¬ (Q a.expression)
+      → ¬ (SomeExpression Q (looked_into hypotheses a))
   none_looked true off lacks some = absurd (true≢false off)
   none_looked false off lacks (inl has) = lacks has
   none_looked false off lacks (inr later) = later
 
   pub later_met : (hypotheses : Bool) (P : Type 0) → hypotheses ≡ true
-      → ¬ (HasShape shape a.expression) → (P ↔ OneHasShape a.hypotheses shape)
-      → (P ↔ OneHasShape (looked_into hypotheses a) shape)
+      → ¬ (Q a.expression) → (P ↔ SomeExpression Q a.hypotheses)
+      → (P ↔ SomeExpression Q (looked_into hypotheses a))
   later_met true P on lacks told = (
     (λ p. inr (told.0 p)),
     (λ some. elim some [

@@ -1,8 +1,8 @@
 -- Which symbols have a shape, token by token, and the marks that tell it. On this file rests the
 -- contract of `has_shape`.
-use Rattle.std.proofs.Common.{◌≡◌, ℕ, suc, zero, ◌<◌, List, [], ◌∷◌, ◌++◌, map, length, slice_get}
+use Rattle.std.proofs.Common.{◌≡◌, ℕ, suc, ◌<◌, List, [], ◌∷◌, ◌++◌, map, length, slice_get}
 use Rattle.std.proofs.Common.{codes}
-use Rattle.std.proofs.Common.{Bool, true, false, ◌||◌, ◌&&◌, Option, Some, ◌⊎◌, inl, inr, refl, sym}
+use Rattle.std.proofs.Common.{Bool, true, false, ◌||◌, ◌&&◌, Some, ◌⊎◌, inl, inr, refl, sym}
 use Rattle.std.proofs.Common.{ap, subst, ◌∙◌}
 use Rattle.std.proofs.Common.{append-nil, append_assoc, arith, drop, take, get_or, ◌+◌, ◌-◌, ◌≤◌}
 use Rattle.std.proofs.Common.{None}
@@ -108,7 +108,7 @@ any_after shape seen x (inr has) = any_at_once shape (seen ++ x ∷ []) has
 
 -- ---- another token
 
-stands_for_one : (token symbol : List ℕ) → Decides (stands_for token symbol)
+pub stands_for_one : (token symbol : List ℕ) → Decides (stands_for token symbol)
     (StandsForOne token symbol)
 stands_for_one token symbol =
     Decides-or (bytes_eq token (codes "$?")) (bytes_eq token symbol)

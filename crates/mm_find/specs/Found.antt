@@ -1,5 +1,5 @@
--- What `mm find` lists: assertions of a database by their shape, whatever their proofs. Where no
--- shape is asked for, they are all listed. The question and the form of its answer are this
+-- What `mm find` lists: assertions of a database by patterns, whatever their proofs. Where no pattern
+-- is asked for, they are all listed. The question and the form of its answer are this
 -- project's own.
 use Rattle.std.specs.Prelude.{◌≡◌, ◌⊎◌, ℕ, List, [], ◌∷◌, ◌++◌, map, filter}
 use Rattle.std.specs.List.{AllByRecursion}
@@ -10,7 +10,7 @@ use Rattle.mm_base.specs.Statement.{PlainStatement, keyword_of}
 use Rattle.mm_text.specs.declared.fault.LoadRule.{LoadRule}
 use Rattle.mm_text.specs.Files.{PlainFile, BreaksLoad}
 use Rattle.mm_text.specs.Reading.{PlainFault, Reads}
-use Rattle.mm_frame.specs.Sentence.{Sentence, sentence_of, IsAssertion, IsLabelled}
+use Rattle.mm_frame.specs.Sentence.{Sentence, IsAssertion, IsLabelled}
 use Rattle.mm_frame.specs.Frame.{AreMandatory}
 use Rattle.mm_frame.specs.Rules.{AllMeant}
 use Rattle.mm_rules.specs.Shown.{symbols_text}
@@ -20,7 +20,10 @@ use Rattle.mm_rules.specs.declared.rule.Rule.TheVariants as rules
 use Rattle.mm_rules.specs.declared.fault.CheckFault.{CheckFault}
 use Rattle.mm_rules.specs.declared.fault.CheckFault.TheVariants as check
 use Rattle.mm_verdict.specs.Faults.{IsMeaningRefusal}
+use Rattle.mm_find.specs.declared.query.Matching.{Matching}
+use Rattle.mm_find.specs.declared.query.Matching.TheVariants.{Shapes, Variants}
 use Rattle.mm_find.specs.Shape.{HasShape}
+use Rattle.mm_find.specs.Variant.{AreTypeCodes, HasVariant}
 
 -- ---- an assertion
 
@@ -68,9 +71,11 @@ line_of a =
 
 -- ---- which are asked for
 
--- The shapes that are asked for, and whether hypotheses are looked into too.
+-- The patterns that are asked for, what an expression must have of each, and whether hypotheses are
+-- looked into too.
 pub record PlainQuery : Type 0 where
-  pub shapes : List (List (List ℕ))
+  pub patterns : List (List (List ℕ))
+  pub matching : Matching
   pub hypotheses : Bool
 
 -- the expressions that are looked into
@@ -78,35 +83,58 @@ abbrev pub looked_into : (hypotheses : Bool) → PlainAssertion → List (List (
 looked_into true a = a.expression ∷ a.hypotheses
 looked_into false a = a.expression ∷ []
 
--- one of the expressions has the shape
-abbrev pub OneHasShape : (expressions : List (List (List ℕ))) → (shape : List (List ℕ)) → Type 0
-OneHasShape [] shape = ⊥
-OneHasShape (e ∷ others) shape = HasShape shape e ⊎ OneHasShape others shape
+-- the expression has the pattern: its tokens are a shape of it, or it has a variant of them
+abbrev pub HasPattern : Matching → (type_of : List ℕ → Option (List ℕ))
+    → (pattern expression : List (List ℕ)) → Type 0
+HasPattern Shapes type_of pattern expression = HasShape pattern expression
+HasPattern (Variants whole) type_of pattern expression =
+    HasVariant type_of whole pattern expression
 
--- the assertion is asked for: each of the shapes is that of one of its expressions
-abbrev pub IsAskedFor : PlainQuery → PlainAssertion → Type 0
-IsAskedFor query a =
-    AllByRecursion (OneHasShape (looked_into query.hypotheses a)) query.shapes
+-- one of the expressions is so
+abbrev pub SomeExpression : (List (List ℕ) → Type 0) → (expressions : List (List (List ℕ)))
+    → Type 0
+SomeExpression P [] = ⊥
+SomeExpression P (e ∷ others) = P e ⊎ SomeExpression P others
+
+-- the pattern is that of one of the expressions of the assertion that are looked into
+abbrev pub IsMet : PlainQuery → (type_of : List ℕ → Option (List ℕ)) → PlainAssertion
+    → (pattern : List (List ℕ)) → Type 0
+IsMet query type_of a pattern =
+    SomeExpression (HasPattern query.matching type_of pattern) (looked_into query.hypotheses a)
+
+-- the assertion is asked for: each of the patterns is met
+abbrev pub IsAskedFor : PlainQuery → (type_of : List ℕ → Option (List ℕ)) → PlainAssertion → Type 0
+IsAskedFor query type_of a = AllByRecursion (IsMet query type_of a) query.patterns
 
 -- ---- the list
 
 -- what is listed of an assertion: its line, if it is asked for
-abbrev pub IsLineFor : PlainQuery → PlainAssertion → (line : List ℕ) → Type 0
-IsLineFor query a line =
-    (IsAskedFor query a × (line ≡ line_of a)) ⊎ (¬ (IsAskedFor query a) × (line ≡ []))
+abbrev pub IsLineFor : PlainQuery → (type_of : List ℕ → Option (List ℕ)) → PlainAssertion
+    → (line : List ℕ) → Type 0
+IsLineFor query type_of a line =
+    (IsAskedFor query type_of a × (line ≡ line_of a))
+    ⊎ (¬ (IsAskedFor query type_of a) × (line ≡ []))
 
 -- what is listed of a statement after those before: that of an assertion; nothing of another
-abbrev pub IsListedOf : PlainQuery → (before : List Sentence) → Sentence → (line : List ℕ) → Type 0
-IsListedOf query before s line =
-    ((a : PlainAssertion) × States before s a × IsLineFor query a line)
+abbrev pub IsListedOf : PlainQuery → (type_of : List ℕ → Option (List ℕ))
+    → (before : List Sentence) → Sentence → (line : List ℕ) → Type 0
+IsListedOf query type_of before s line =
+    ((a : PlainAssertion) × States before s a × IsLineFor query type_of a line)
     ⊎ (¬ (IsAssertion s.kind) × (line ≡ []))
 
 -- what is listed of the statements that are left after those before, in their order
-abbrev pub AreListed : PlainQuery → (before left : List Sentence) → (text : List ℕ) → Type 0
-AreListed query before [] text = text ≡ []
-AreListed query before (s ∷ left) text =
+abbrev pub AreListed : PlainQuery → (type_of : List ℕ → Option (List ℕ))
+    → (before left : List Sentence) → (text : List ℕ) → Type 0
+AreListed query type_of before [] text = text ≡ []
+AreListed query type_of before (s ∷ left) text =
     (line : List ℕ) × (others : List ℕ) × (text ≡ line ++ others)
-    × IsListedOf query before s line × AreListed query (before ++ s ∷ []) left others
+    × IsListedOf query type_of before s line
+    × AreListed query type_of (before ++ s ∷ []) left others
+
+-- the type codes are those of the statements, where variants are asked for
+abbrev pub AreAskedTypes : Matching → List Sentence → (type_of : List ℕ → Option (List ℕ)) → Type 0
+AreAskedTypes Shapes statements type_of = Unit {0}
+AreAskedTypes (Variants whole) statements type_of = AreTypeCodes statements type_of
 
 -- The list for the files: they are read without a fault, no statement breaks a rule of meaning, and
 -- this is what is listed of the statements. How any of them is proved is left open.
@@ -115,7 +143,9 @@ pub record IsListOf (query : PlainQuery) (files : List PlainFile) (text : List �
   pub statements : List PlainStatement
   pub reads : Reads files statements None
   pub meant : AllMeant (sentences statements)
-  pub listed : AreListed query [] (sentences statements) text
+  pub type_of : List ℕ → Option (List ℕ)
+  pub types : AreAskedTypes query.matching (sentences statements) type_of
+  pub listed : AreListed query type_of [] (sentences statements) text
 
 -- ---- the first fault, where there is one
 

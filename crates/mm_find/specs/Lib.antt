@@ -1,4 +1,5 @@
 pub mod Shape
+pub mod Variant
 pub mod Found
 pub mod Plain
 pub mod Reply

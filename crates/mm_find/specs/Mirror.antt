@@ -2,4 +2,5 @@
 -- alone speak of them, and lemmas join them to the definitions, which are the other files of
 -- specs/.
 pub mod Marks
+pub mod Types
 pub mod Walk

@@ -20,4 +20,8 @@ plain_assertion a = record {
 }
 
 abbrev pub plain_query : Query → PlainQuery
-plain_query q = record { shapes = expressions_in q.shapes.items; hypotheses = q.hypotheses }
+plain_query q = record {
+  patterns = expressions_in q.patterns.items;
+  matching = q.matching;
+  hypotheses = q.hypotheses;
+}

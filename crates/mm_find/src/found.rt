@@ -9,12 +9,15 @@ ghost use Rattle.mm_frame.specs.Taken.{TakenAs};
 ghost use Rattle.mm_rules.specs.Verdict.{CanBeRead};
 ghost use Rattle.mm_find.specs.Found.{IsListOf, IsListedOf, IsUnlisted};
 ghost use Rattle.mm_find.specs.Plain.{plain_query};
-ghost use Rattle.mm_find.specs.Mirror.Walk.{IsLast, IsListing, StopsListing};
+ghost use Rattle.mm_find.specs.Mirror.Types.{type_in};
+ghost use Rattle.mm_find.specs.Mirror.Walk.{IsLast, IsListing, IsListOfAll, StopsListing};
 ghost use Rattle.mm_find.specs.Mirror.Walk.{IsTakenLast};
 
 use crate::assertion::assertion_at;
 use crate::line::push_line;
 use crate::query::{Query, is_asked_for};
+use crate::types::Types;
+use crate::typing::asked_types;
 use mm_base::{File, Kind, Seed, Statement};
 use mm_frame::{Book, LabelId, Taken};
 use mm_rules::{CheckFault, Progress, Stop};
@@ -30,16 +33,17 @@ fn push_asked(
     id: LabelId,
     kind: Kind,
     query: &Query,
+    types: &Types,
 ) -> Result<(), AllocError>
     requires { (before : List Sentence) × (s : Sentence)
         × IsLast book.now.statements id.0 before s × (kind ≡ s.kind) }
     ensures { OnOk result ((before : List Sentence) (s : Sentence)
         → IsLast book.now.statements id.0 before s → kind ≡ s.kind → (line : List ℕ)
-        × IsListedOf (plain_query query.now) before s line
+        × IsListedOf (plain_query query.now) (type_in types.now) before s line
         × (out.new.items ≡ out.old.items ++ line)) }
 {
     let assertion = assertion_at(alloc, book, id, kind)?;
-    let asked = is_asked_for(alloc, query, &assertion)?;
+    let asked = is_asked_for(alloc, query, types, &assertion)?;
     if asked {
         return push_line(out, &assertion);
     }
@@ -54,16 +58,17 @@ fn push_listed(
     taken: Taken,
     kind: Kind,
     query: &Query,
+    types: &Types,
 ) -> Result<(), AllocError>
     requires { (before : List Sentence) × (s : PlainStatement)
         × IsTakenLast book.now.statements taken before s × (kind ≡ s.kind) }
     ensures { OnOk result ((before : List Sentence) (s : PlainStatement)
         → IsTakenLast book.now.statements taken before s → kind ≡ s.kind → (line : List ℕ)
-        × IsListedOf (plain_query query.now) before (sentence_of s) line
+        × IsListedOf (plain_query query.now) (type_in types.now) before (sentence_of s) line
         × (out.new.items ≡ out.old.items ++ line)) }
 {
     match taken {
-        Taken::Assertion(id) => push_asked(out, alloc, book, id, kind, query),
+        Taken::Assertion(id) => push_asked(out, alloc, book, id, kind, query, types),
         _ => Ok(()),
     }
 }
@@ -75,12 +80,13 @@ fn list_rest<'a>(
     statements: &mut Statements<'a>,
     progress: &mut Progress<'a>,
     query: &Query,
+    types: &Types,
     out: &mut Vec<u8>,
 ) -> Result<(), Stop<'a>>
-    requires { IsListing (plain_query query.now) (map plain_file files.now) progress.old
-        statements.old out.old.items }
-    ensures listed { OnOk result
-        (IsListOf (plain_query query.now) (map plain_file files.now) out.new.items) }
+    requires { IsListing (plain_query query.now) (type_in types.now) (map plain_file files.now)
+        progress.old statements.old out.old.items }
+    ensures listed { OnOk result (IsListOfAll (plain_query query.now) (type_in types.now)
+        (map plain_file files.now) out.new.items) }
     ensures stopped { IfErr result (StopsListing (map plain_file files.now)) }
 {
     let mut statement = Statement::empty(alloc);
@@ -92,6 +98,7 @@ fn list_rest<'a>(
             taken,
             statement.kind,
             query,
+            types,
         )?;
     }
     Ok(())
@@ -104,16 +111,25 @@ fn list<'a>(
     files: &'a [File<'a>],
     statements: &mut Statements<'a>,
     query: &Query,
+    types: &Types,
 ) -> Result<Vec<u8>, CheckFault<'a>>
     requires unread { IsUnread (map plain_file files.now) statements.old }
     requires readable { CanBeRead (map plain_file files.now) }
-    ensures listed { IfOk result (λ text.
-        IsListOf (plain_query query.now) (map plain_file files.now) text.items) }
+    ensures listed { IfOk result (λ text. IsListOfAll (plain_query query.now) (type_in types.now)
+        (map plain_file files.now) text.items) }
     ensures fault { IfErr result (IsUnlisted (map plain_file files.now)) }
 {
     let mut progress: Progress<'a> = beginning(alloc, seed, files)?;
     let mut out = Vec::new(alloc);
-    match list_rest(alloc, files, statements, &mut progress, query, &mut out) {
+    match list_rest(
+        alloc,
+        files,
+        statements,
+        &mut progress,
+        query,
+        types,
+        &mut out,
+    ) {
         Ok(()) => Ok(out),
         Err(stop) => {
             drop(out);
@@ -124,8 +140,8 @@ fn list<'a>(
 
 /// The lines of the assertions that are asked for, in database order.
 ///
-/// The files are read, and each statement is judged by the rules of meaning. No proof is judged, so
-/// that faulty and incomplete proofs don't count.
+/// The files are read, and each statement is judged by the rules of meaning; where variants are asked
+/// for, twice. No proof is judged, so that faulty and incomplete proofs don't count.
 ///
 /// # Errors
 ///
@@ -144,8 +160,10 @@ pub fn find<'a>(
     // A fault is one of the files, whatever their proofs.
     ensures fault { IfErr result (IsUnlisted (map plain_file files.now)) }
 {
+    let types = asked_types(alloc, seed, files, query.matching)?;
     let mut statements = load(alloc, seed, files)?;
-    let outcome = list(alloc, seed, files, &mut statements, query);
+    let outcome = list(alloc, seed, files, &mut statements, query, &types);
+    drop(types);
     drop(statements);
     outcome
 }

@@ -11,13 +11,13 @@ ghost use Rattle.mm_find.specs.Mirror.Marks.{stands_for as stands_for_symbol};
 use std::alloc::{AllocError, Global};
 
 /// What stands for one symbol.
-const ONE: &[u8] = b"$?";
+pub(crate) const ONE: &[u8] = b"$?";
 
 /// What stands for any number of symbols, none too.
 pub(crate) const ANY: &[u8] = b"$*";
 
 /// Whether a token of a shape stands for a symbol.
-fn stands_for(token: &[u8], symbol: &[u8]) -> bool
+pub(crate) fn stands_for(token: &[u8], symbol: &[u8]) -> bool
     ensures { result ≡ stands_for_symbol token.now symbol.now }
 {
     token == ONE || token == symbol

@@ -180,7 +180,8 @@ Examples:
   mm statement --all set.mm
 ";
 
-const FIND: &str = "Usage: mm find PATTERN [--and PATTERN].. [--whole] [--hypotheses] FILES..
+const FIND: &str = "Usage: mm find PATTERN [--and PATTERN].. [--whole] [--shape]
+               [--hypotheses] FILES..
 
 Lists the axioms and theorems whose expressions have this pattern, in the order
 of the database, a line for each. No proof is judged, so that it answers where
@@ -194,6 +195,9 @@ Options:
   --and PATTERN   this pattern must be met too; it may be given again
   --whole         a pattern is that of a whole expression, with its type code
                   or without
+  --shape         the variables of a pattern stand for variables of their types,
+                  the same for the same and different ones for different ones;
+                  a pattern has no `$*`
   --hypotheses    a pattern may be that of a `$e` hypothesis too
 
 Replies:
@@ -207,6 +211,7 @@ Replies:
 Examples:
   mm find '( $* -> ph )' set.mm
   mm find '( $? + $? ) = $*' --whole set.mm
+  mm find '( ps -> ps )' --shape set.mm
 ";
 
 const SHOW: &str = "Usage: mm show [--known] [--letters] LABEL FILES..

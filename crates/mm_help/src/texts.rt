@@ -50,11 +50,12 @@ Commands:
                          its frame, and what it says, whatever the proofs
   statement --all FILES..
                          lists each axiom and each theorem in a line, whatever their proofs
-  find PATTERN [--and PATTERN].. [--whole] [--hypotheses] FILES..
+  find PATTERN [--and PATTERN].. [--whole] [--shape] [--hypotheses] FILES..
                          lists the axioms and theorems that have this pattern, whatever their
                          proofs: tokens, `$?` for one symbol, `$*` for any number of them; with
-                         --and this one too, with --whole as a whole expression, with --hypotheses
-                         also in hypotheses
+                         --and this one too, with --whole as a whole expression, with --shape
+                         with other variables of the same types, with --hypotheses also in
+                         hypotheses
   show [--known] [--letters] LABEL FILES..
                          checks the database, and lists the steps of the proof of the theorem with
                          this label; with --known the steps that pass, of an unfinished proof or of

@@ -19,6 +19,13 @@ ${ h $e a $. step $a b $. $}
 full $p b $= step $.
 ";
 
+/// Assertions over variables of two types, some of which are declared behind them.
+const TYPED: &[u8] = b"$c 0 + = ( ) A B $. $v a b c $. fa $f A a $. fb $f A b $. fc $f B c $.
+same $a A ( a + a ) $. other $a A ( a + c ) $.
+${ h $e A 0 = b $. two $a A ( a + b ) $. $}
+$v x y $. fx $f A x $. fy $f A y $.
+";
+
 /// Axioms by the type code of the theorem, and chains of uses.
 pub(crate) const CHAINS: [(Command<'static>, Case); 8] = [
     (
@@ -120,11 +127,12 @@ pub(crate) const CHAINS: [(Command<'static>, Case); 8] = [
 ];
 
 /// Assertions that are found, or listed.
-pub(crate) const FOUND: [(Command<'static>, Case); 5] = [
+pub(crate) const FOUND: [(Command<'static>, Case); 6] = [
     (
         Find {
             patterns: &[b"b"],
             whole: true,
+            shape: false,
             hypotheses: false,
         },
         Case {
@@ -138,6 +146,7 @@ pub(crate) const FOUND: [(Command<'static>, Case); 5] = [
         Find {
             patterns: &[b"a", b"$* b"],
             whole: false,
+            shape: false,
             hypotheses: true,
         },
         Case {
@@ -149,8 +158,23 @@ pub(crate) const FOUND: [(Command<'static>, Case); 5] = [
     ),
     (
         Find {
+            patterns: &[b"( y + x )", b"0 = x"],
+            whole: false,
+            shape: true,
+            hypotheses: true,
+        },
+        Case {
+            name: "assertions by two patterns up to the names of variables, whose `$f` come later",
+            files: &[(b"f.mm", &[Text(TYPED)])],
+            reply: b"two $a : A 0 = b => A ( a + b )\n",
+            status: 0,
+        },
+    ),
+    (
+        Find {
             patterns: &[b"c"],
             whole: false,
+            shape: false,
             hypotheses: true,
         },
         Case {
@@ -164,6 +188,7 @@ pub(crate) const FOUND: [(Command<'static>, Case); 5] = [
         Find {
             patterns: &[],
             whole: false,
+            shape: false,
             hypotheses: false,
         },
         Case {
@@ -177,6 +202,7 @@ pub(crate) const FOUND: [(Command<'static>, Case); 5] = [
         Find {
             patterns: &[],
             whole: false,
+            shape: false,
             hypotheses: false,
         },
         Case {

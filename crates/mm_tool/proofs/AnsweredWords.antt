@@ -139,7 +139,7 @@ pub asks_handed : (command : Command) (names : List (List ℕ)) (files : List Pl
     → length files ≡ length names → AsksNamed command names → AsksHanded files command
 asks_handed (File form number) names files same named = rw same named
 asks_handed (Shorter number duplicates) names files same named = rw same named
-asks_handed (Find patterns whole hypotheses) names files same named = named
+asks_handed (Find patterns whole shape hypotheses) names files same named = named
 asks_handed command names files same named = tt
 
 -- Of the files that were read there are as many as names.

@@ -80,7 +80,7 @@ label_of (Statement label) = Some label.now
 label_of (File form number) = None
 label_of (Shorter number duplicates) = None
 label_of (Lemmas most least) = None
-label_of (Find patterns whole hypotheses) = None
+label_of (Find patterns whole shape hypotheses) = None
 
 -- Where proofs are at fault, the line that says why the database is refused; else nothing.
 abbrev pub IsFaultyNote : List PlainFile → Option Searched → (line : List ℕ) → Type 0

@@ -261,6 +261,7 @@ fn find_command<'p>(asked: &AskedPatterns<'_>, patterns: &'p [&'p [u8]]) -> Comm
     Command::Find {
         patterns,
         whole: asked.whole,
+        shape: asked.shape,
         hypotheses: asked.hypotheses,
     }
 }

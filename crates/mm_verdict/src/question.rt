@@ -46,12 +46,13 @@ pub enum Command<'a> {
         least: usize,
     },
     /// For a line for each assertion with each of these patterns, whatever the proofs; if `whole`,
-    /// as whole expressions; if `hypotheses`, also in essential hypotheses. A pattern has at most
-    /// 1,073,741,824 bytes, and its tokens stand between white space. Where there is none, for each
-    /// assertion.
+    /// as whole expressions; if `shape`, with each variable for one of its type, one for one; if
+    /// `hypotheses`, also in essential hypotheses. A pattern has at most 1,073,741,824 bytes, and its
+    /// tokens stand between white space. Where there is none, for each assertion.
     Find {
         patterns: &'a [&'a [u8]],
         whole: bool,
+        shape: bool,
         hypotheses: bool,
     },
 }

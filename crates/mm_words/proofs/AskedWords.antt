@@ -2,7 +2,7 @@
 use Rattle.std.proofs.Common.{◌≡◌, ◌≢◌, false, ℕ, suc, zero, ◌+◌, ◌<◌, List, [], ◌∷◌, length, take}
 use Rattle.std.proofs.Common.{get_or, arith, Bool, Bor, map, nat_lt, cond, codes, Option}
 use Rattle.std.proofs.Common.{Some, None, option_map, Result, Ok, Err, IfOk, IfErr, IsSome, IfSome}
-use Rattle.std.proofs.Common.{inl, inr, refl, ap, subst, sym, ◌∙◌, true, unwrap_or, ◌-◌}
+use Rattle.std.proofs.Common.{inl, inr, refl, ap, subst, sym, ◌∙◌, true, unwrap_or}
 use Rattle.std.proofs.Common.{is_some, ◌≤◌}
 use Rattle.std.proofs.lemmas.List.{take_more, map-append}
 use Rattle.std.specs.List.{position, position_or_len}
@@ -184,8 +184,8 @@ named_by_words words (File form number) names (rows, commands, file, all, found,
     number_found names (unwrap_or (first_of (codes "LABEL") rows) []) number found
 named_by_words words (Shorter number duplicates) names (behind, asked, (name, is, found)) =
     number_found names name number found
-named_by_words words (Find patterns whole hypotheses) names (inl (asked, short)) = short
-named_by_words words (Find patterns whole hypotheses) names (inr (none, asked)) = rw none tt
+named_by_words words (Find patterns whole shape hypotheses) names (inl (asked, short, fit)) = short
+named_by_words words (Find patterns whole shape hypotheses) names (inr (none, asked)) = rw none tt
 named_by_words words command names asked = tt
 
 -- The index of a name among names is that among their texts.

@@ -1,2 +1,3 @@
 pub mod AskedWords
 pub mod NamedSides
+pub mod EachPattern

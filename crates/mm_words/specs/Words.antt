@@ -20,6 +20,7 @@ use Rattle.clap.specs.declared.error.kind.ErrorKind.TheVariants.{DisplayHelp, Di
 use Rattle.clap.specs.declared.error.kind.ErrorKind.TheVariants.{OutOfMemory}
 use Rattle.mm_base.specs.MostBytes.{most_bytes}
 use Rattle.mm_code.specs.Layout.{texts}
+use Rattle.mm_code.specs.Words.{tokens_in}
 use Rattle.mm_verdict.specs.declared.question.Command.{Command}
 use Rattle.mm_verdict.specs.declared.question.Command.TheVariants.{Whole, About, File, Find, Lone}
 use Rattle.mm_verdict.specs.declared.question.Command.TheVariants.{Statement, Lemmas}
@@ -66,7 +67,7 @@ pattern_rule = record (new_rule (codes "PATTERN")) {
 }
 
 -- a flag: `--file`, `--all`, `--list`, `--duplicates`, `--known`, `--essential`, `--uses`,
--- `--whole`, `--hypotheses` or `--strict`
+-- `--whole`, `--shape`, `--hypotheses` or `--strict`
 abbrev pub flag_rule : Text → Rule
 flag_rule name = record (new_rule name) {
   long = Some name;
@@ -146,16 +147,18 @@ abbrev pub statement_line : App
 statement_line =
     with_rule (with_rule (new_app (codes "statement")) (flag_rule (codes "all"))) files_rule
 
--- `find PATTERN [--and PATTERN].. [--whole] [--hypotheses] FILES..`
+-- `find PATTERN [--and PATTERN].. [--whole] [--shape] [--hypotheses] FILES..`
 abbrev pub find_line : App
 find_line =
     with_rule
     (with_rule
     (with_rule
     (with_rule
+    (with_rule
     (with_rule (new_app (codes "find")) pattern_rule)
     (options_rule (codes "and")))
     (flag_rule (codes "whole")))
+    (flag_rule (codes "shape")))
     (flag_rule (codes "hypotheses")))
     files_rule
 
@@ -300,7 +303,7 @@ versions_line = with_subcommand proofs_line diff_line.top
 -- `mm check [--strict] FILES..`, `mm faults [--strict] FILES..`, `mm why [--strict] FILES..`,
 -- `mm axioms [--essential | --to AXIOM] LABEL FILES..`, `mm axioms --all FILES..`,
 -- `mm users [--all] LABEL FILES..`, `mm statement LABEL FILES..`, `mm statement --all FILES..`,
--- `mm find PATTERN [--and PATTERN].. [--whole] [--hypotheses] FILES..`,
+-- `mm find PATTERN [--and PATTERN].. [--whole] [--shape] [--hypotheses] FILES..`,
 -- `mm show [--known | --essential | --uses] LABEL FILES..`,
 -- `mm normal [--file] LABEL FILES..`, `mm packed [--file] LABEL FILES..`,
 -- `mm small [--file] LABEL FILES..`, all three with `--all NAME FILES..` too,
@@ -457,24 +460,35 @@ AsksStatementAmiss words =
 
 -- They ask by `find` for the assertions that have these patterns: the one behind the command, and
 -- each behind `--and`; with these flags, in the files with these names.
-abbrev pub AsksFind : List Text → (patterns : List Text) → (whole hypotheses : Bool) → List Text
-    → Type 0
-AsksFind words patterns whole hypotheses names =
+abbrev pub AsksFind : List Text → (patterns : List Text) → (whole shape hypotheses : Bool)
+    → List Text → Type 0
+AsksFind words patterns whole shape hypotheses names =
     (rows : List Row) × Commands words (codes "find") rows
     × (unwrap_or (first_of (codes "PATTERN") rows) [] ∷ unwrap_or (all_of (codes "and") rows) []
     ≡ patterns)
-    × IsGiven (codes "whole") rows whole × IsGiven (codes "hypotheses") rows hypotheses
+    × IsGiven (codes "whole") rows whole × IsGiven (codes "shape") rows shape
+    × IsGiven (codes "hypotheses") rows hypotheses
     × (unwrap_or (all_of (codes "FILES") rows) [] ≡ names)
 
 -- No pattern has more bytes than files may have.
 abbrev pub AreShort : (patterns : List Text) → Type 0
 AreShort patterns = AllByRecursion (λ pattern. length pattern ≤ most_bytes) patterns
 
--- They ask so for patterns of which one has more.
+-- No token of the pattern is `$*`.
+abbrev pub IsGapless : (pattern : Text) → Type 0
+IsGapless pattern = AllByRecursion (λ token. token ≢ codes "$*") (tokens_in pattern)
+
+-- The patterns may be sought so: by their shape where none of them holds `$*`.
+abbrev pub AreFit : (shape : Bool) → (patterns : List Text) → Type 0
+AreFit true patterns = AllByRecursion IsGapless patterns
+AreFit false patterns = Unit {0}
+
+-- They ask so for patterns of which one has more, or that may not be sought so.
 abbrev pub AsksFindAmiss : List Text → Type 0
 AsksFindAmiss words =
-    (patterns : List Text) × (whole hypotheses : Bool) × (names : List Text)
-    × AsksFind words patterns whole hypotheses names × ¬ (AreShort patterns)
+    (patterns : List Text) × (whole shape hypotheses : Bool) × (names : List Text)
+    × AsksFind words patterns whole shape hypotheses names
+    × (¬ (AreShort patterns) ⊎ ¬ (AreFit shape patterns))
 
 -- Of the flags of `show` these are given, if so it is said.
 abbrev pub AreShowFlags : List Row → (known letters essential uses : Bool) → Type 0
@@ -702,8 +716,9 @@ AsksRun words (File form number) names = AsksAll words form number names
 AsksRun words (commands.Shorter number duplicates) names =
     AsksShorterFile words number duplicates names
 AsksRun words (Lemmas most least) names = AsksLemmas words most least names
-AsksRun words (Find patterns whole hypotheses) names =
-    (AsksFind words (texts patterns.now) whole hypotheses names × AreShort (texts patterns.now))
+AsksRun words (Find patterns whole shape hypotheses) names =
+    (AsksFind words (texts patterns.now) whole shape hypotheses names
+    × AreShort (texts patterns.now) × AreFit shape (texts patterns.now))
     ⊎ ((texts patterns.now ≡ []) × AsksStatement words true names)
 
 -- They ask for what the request says.
@@ -716,9 +731,10 @@ Asks words (requests.Text asked) =
     AsksText asked.question words asked.label.now asked.proof.now
     (map (λ name. name.now) asked.names.items)
 Asks words (requests.Find asked) =
-    AsksFind words (map (λ pattern. pattern.now) asked.patterns.items) asked.whole asked.hypotheses
-    (map (λ name. name.now) asked.names.items)
+    AsksFind words (map (λ pattern. pattern.now) asked.patterns.items) asked.whole asked.shape
+    asked.hypotheses (map (λ name. name.now) asked.names.items)
     × AreShort (map (λ pattern. pattern.now) asked.patterns.items)
+    × AreFit asked.shape (map (λ pattern. pattern.now) asked.patterns.items)
 Asks words (requests.Mend asked) =
     AsksMend words asked.label.now (map (λ name. name.now) asked.names.items)
 Asks words (requests.Diff asked) =
@@ -820,5 +836,5 @@ IsFaultOfKind kind other = ⊥
 abbrev pub AsksNamed : Command → List Text → Type 0
 AsksNamed (File form number) names = number < length names
 AsksNamed (commands.Shorter number duplicates) names = number < length names
-AsksNamed (Find patterns whole hypotheses) names = AreShort (texts patterns.now)
+AsksNamed (Find patterns whole shape hypotheses) names = AreShort (texts patterns.now)
 AsksNamed other names = Unit {0}

@@ -93,6 +93,8 @@ pub(crate) const AND: &str = "and";
 
 pub(crate) const WHOLE: &str = "whole";
 
+pub(crate) const SHAPE: &str = "shape";
+
 pub(crate) const HYPOTHESES: &str = "hypotheses";
 
 pub(crate) const PROOF: &str = "PROOF";
@@ -322,7 +324,7 @@ fn statement_command<'a>(alloc: Global) -> Result<Command<'a>, AllocError>
 
 /// How `find` is used.
 pub(crate) const FIND_USE: &str =
-    "mm find PATTERN [--and PATTERN].. [--whole] [--hypotheses] FILES..";
+    "mm find PATTERN [--and PATTERN].. [--whole] [--shape] [--hypotheses] FILES..";
 
 /// The command `find`, for `clap`.
 fn find_command<'a>(alloc: Global) -> Result<Command<'a>, AllocError>
@@ -335,6 +337,7 @@ fn find_command<'a>(alloc: Global) -> Result<Command<'a>, AllocError>
     let command = with_argument(Ok(command), pattern_argument(alloc));
     let command = with_argument(command, options_argument(alloc, AND));
     let command = with_argument(command, flag_argument(alloc, WHOLE));
+    let command = with_argument(command, flag_argument(alloc, SHAPE));
     let command = with_argument(command, flag_argument(alloc, HYPOTHESES));
     with_argument(command, files_argument(alloc))
 }

@@ -1,17 +1,27 @@
 //! What the words of `mm find` and `mm statement` ask for.
 
-ghost use Rattle.std.specs.Prelude.{◌≡◌, ◌∷◌, [], List, map, IfOk, IfErr, IsTrue, false, true};
-ghost use Rattle.std.specs.Prelude.{codes, unwrap_or};
+ghost use Rattle.std.specs.Prelude.{◌≡◌, ◌≢◌, ◌≤◌, ◌↔◌, ◌∷◌, [], List, map, length, IfOk};
+ghost use Rattle.std.specs.Prelude.{IfErr, IsTrue, false, true, codes, unwrap_or};
+ghost use Rattle.std.specs.List.{AllByRecursion};
 ghost use Rattle.clap.specs.Words.{Text, all_of, first_of, found_of, rows_of};
-ghost use Rattle.mm_words.specs.Words.{AreShort, Asks, AsksStatement, Commands, IsWordFault};
+ghost use Rattle.mm_base.specs.MostBytes.{most_bytes};
+ghost use Rattle.mm_code.specs.Layout.{texts};
+ghost use Rattle.mm_words.specs.Words.{AreFit, AreShort, Asks, AsksStatement, Commands};
+ghost use Rattle.mm_words.specs.Words.{IsGapless, IsWordFault};
 
-use crate::command_line::{ALL, AND, FILES, FIND_USE, HYPOTHESES, PATTERN, STATEMENT_USE, WHOLE};
+use crate::command_line::{
+    ALL, AND, FILES, FIND_USE, HYPOTHESES, PATTERN, SHAPE, STATEMENT_USE, WHOLE,
+};
 use crate::matches::{asked_word, is_given, label_and_names, values_of};
 use crate::request::{AskedPatterns, Request};
 use crate::stop::Stop;
 use clap::ArgMatches;
 use mm_text::BYTE_LIMIT;
+use mm_verdict::tokens_of;
 use std::alloc::{AllocError, Global};
+
+/// What stands in a pattern for any number of symbols.
+const GAP: &[u8] = b"$*";
 
 /// The request to list all assertions in the files with these names.
 fn assertions_request(names: Vec<&str>) -> Request<'_>
@@ -22,6 +32,7 @@ fn assertions_request(names: Vec<&str>) -> Request<'_>
         command: mm_verdict::Command::Find {
             patterns: &[],
             whole: true,
+            shape: false,
             hypotheses: false,
         },
         names,
@@ -78,6 +89,56 @@ fn are_short(patterns: &[&str]) -> bool
     true
 }
 
+/// Whether none of the tokens is `$*`.
+fn hold_no_gap(tokens: &[&[u8]]) -> bool
+    ensures { IsTrue result
+        ↔ AllByRecursion (λ token. token ≢ codes "$*") (texts tokens.now) }
+{
+    for token in tokens {
+        if *token == GAP {
+            return false;
+        }
+    }
+    true
+}
+
+/// Whether no token of the pattern is `$*`.
+fn is_gapless(alloc: Global, pattern: &[u8]) -> Result<bool, AllocError>
+    requires { length pattern.now ≤ most_bytes }
+    ensures { IfOk result (λ gapless. IsTrue gapless ↔ IsGapless pattern.now) }
+{
+    let tokens = tokens_of(alloc, pattern)?;
+    Ok(hold_no_gap(&tokens))
+}
+
+/// Whether no token of any of the patterns is `$*`.
+fn are_gapless(alloc: Global, patterns: &[&str]) -> Result<bool, AllocError>
+    requires { AreShort (map (λ pattern. pattern.now) patterns.now) }
+    ensures { IfOk result (λ gapless. IsTrue gapless
+        ↔ AllByRecursion IsGapless (map (λ pattern. pattern.now) patterns.now)) }
+{
+    for pattern in patterns {
+        let gapless = is_gapless(alloc, pattern.as_bytes())?;
+        if !gapless {
+            return Ok(false);
+        }
+    }
+    Ok(true)
+}
+
+/// Whether the patterns may be sought so: by their shape where none of them holds `$*`.
+fn are_fit(alloc: Global, shape: bool, patterns: &[&str]) -> Result<bool, AllocError>
+    requires { AreShort (map (λ pattern. pattern.now) patterns.now) }
+    ensures { IfOk result (λ fit. IsTrue fit
+        ↔ AreFit shape (map (λ pattern. pattern.now) patterns.now)) }
+{
+    if shape {
+        are_gapless(alloc, patterns)
+    } else {
+        Ok(true)
+    }
+}
+
 /// What the matches of the command `find` ask for.
 pub(crate) fn find_request<'a>(
     alloc: Global,
@@ -92,6 +153,7 @@ pub(crate) fn find_request<'a>(
 {
     let patterns = patterns_of(alloc, matches)?;
     let whole = is_given(matches, WHOLE);
+    let shape = is_given(matches, SHAPE);
     let hypotheses = is_given(matches, HYPOTHESES);
     let names = values_of(alloc, matches, FILES)?;
     if !are_short(&patterns) {
@@ -99,9 +161,14 @@ pub(crate) fn find_request<'a>(
             "mm: a pattern has more than {BYTE_LIMIT} bytes\nUsage: {FIND_USE}\n"
         )?));
     }
+    let fit = are_fit(alloc, shape, &patterns)?;
+    if !fit {
+        return Err(Stop::Usage(format!(in alloc; "mm: --shape takes no $*\nUsage: {FIND_USE}\n")?));
+    }
     Ok(Request::Find(AskedPatterns {
         patterns,
         whole,
+        shape,
         hypotheses,
         names,
     }))

@@ -33,6 +33,7 @@ pub struct AskedMend<'a> {
 pub struct AskedPatterns<'a> {
     pub patterns: Vec<&'a str>,
     pub whole: bool,
+    pub shape: bool,
     pub hypotheses: bool,
     pub names: Vec<&'a str>,
 }

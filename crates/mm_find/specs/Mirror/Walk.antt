@@ -1,7 +1,8 @@
 -- What the code knows on its way through the statements, and of an assertion. This file mirrors the
 -- code, and is cited by private contracts alone.
-use Rattle.std.specs.Prelude.{◌≡◌, ℕ, List, [], ◌∷◌, ◌++◌, length, Some}
+use Rattle.std.specs.Prelude.{◌≡◌, ℕ, List, [], ◌∷◌, ◌++◌, length, Option, Some, None}
 use Rattle.mm_text.specs.Files.{PlainFile}
+use Rattle.mm_text.specs.Reading.{Reads}
 use Rattle.mm_text.specs.Remaining.{Remaining}
 use Rattle.mm_base.specs.Statement.{PlainStatement, HasForm}
 use Rattle.mm_frame.specs.Numbers.{labelled_sentences}
@@ -13,7 +14,7 @@ use Rattle.mm_rules.specs.declared.fault.Stop.{Stop}
 use Rattle.mm_rules.specs.declared.fault.Stop.TheVariants as stop
 use Rattle.mm_rules.specs.declared.progress.Progress.{Progress}
 use Rattle.mm_rules.specs.Answer.{plain_refusal}
-use Rattle.mm_rules.specs.Verdict.{sentences}
+use Rattle.mm_rules.specs.Verdict.{CanBeRead, sentences}
 use Rattle.mm_verdict.specs.Mirror.Judged.{IsRead}
 use Rattle.mm_find.specs.Found.{PlainQuery, AreListed, IsRefusedUnproved}
 
@@ -32,12 +33,25 @@ pub record IsTakenLast (statements : List Sentence) (taken : Taken) (before : Li
   pub kind : TakenAs before s.kind taken
   pub formed : HasForm s
 
--- the statements so far break no rule of meaning, and this is what is listed of them
-pub record IsListing (query : PlainQuery) (files : List PlainFile) (p : Progress) (left : Remaining)
-    (text : List ℕ) : Type 0 where
+-- the statements so far break no rule of meaning
+pub record IsUnderway (files : List PlainFile) (p : Progress) (left : Remaining) : Type 0 where
   pub read : IsRead files p left
   pub meant : AllMeant (sentences read.earlier)
-  pub listed : AreListed query [] (sentences read.earlier) text
+
+-- and this is what is listed of them
+pub record IsListing (query : PlainQuery) (type_of : List ℕ → Option (List ℕ))
+    (files : List PlainFile) (p : Progress) (left : Remaining) (text : List ℕ) : Type 0 where
+  pub way : IsUnderway files p left
+  pub listed : AreListed query type_of [] (sentences way.read.earlier) text
+
+-- there is no fault, and this is what is listed of all statements, by these types
+pub record IsListOfAll (query : PlainQuery) (type_of : List ℕ → Option (List ℕ))
+    (files : List PlainFile) (text : List ℕ) : Type 0 where
+  pub readable : CanBeRead files
+  pub statements : List PlainStatement
+  pub reads : Reads files statements None
+  pub meant : AllMeant (sentences statements)
+  pub listed : AreListed query type_of [] (sentences statements) text
 
 -- the files are refused, or memory ran out
 abbrev pub StopsListing : List PlainFile → Stop → Type 0

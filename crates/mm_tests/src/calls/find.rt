@@ -2,7 +2,7 @@
 //! for hypotheses of its `search` with `/ALL`; it has no word for whole assertions.
 
 use mm_base::{File, Seed};
-use mm_find::{Query, Sought, find, find_reply, shape_of};
+use mm_find::{Matching, Query, Sought, find, find_reply, shape_of};
 use mm_frame::MeaningRule;
 use mm_rules::{CheckFault, Rule, Status};
 use std::alloc::Global;
@@ -90,7 +90,8 @@ fn query_of(alloc: Global, search: &Search) -> Result<Query<'static>, Fail> {
         shapes.push(shape_of(alloc, search.whole, pattern)?)?;
     }
     Ok(Query {
-        shapes,
+        patterns: shapes,
+        matching: Matching::Shapes,
         hypotheses: search.hypotheses,
     })
 }
@@ -140,6 +141,76 @@ fn finds_shapes(rt: HostRuntime) -> Result<(), Fail> {
     Ok(())
 }
 
+/// Patterns up to the names of variables, by their tokens, and the lines of what has them.
+#[derive(Clone, Copy)]
+struct VariantSearch {
+    pattern: &'static [&'static [u8]],
+    whole: bool,
+    hypotheses: bool,
+    lines: &'static [&'static [u8]],
+}
+
+/// A pattern that is sought up to the names of variables, and the lines of what has it.
+fn variants(
+    pattern: &'static [&'static [u8]],
+    whole: bool,
+    hypotheses: bool,
+    lines: &'static [&'static [u8]],
+) -> VariantSearch {
+    VariantSearch {
+        pattern,
+        whole,
+        hypotheses,
+        lines,
+    }
+}
+
+/// Whether the lines that are found are these.
+fn finds_variants(alloc: Global, search: &VariantSearch) -> Result<bool, Fail> {
+    let files = [File {
+        name: b"a.mm",
+        bytes: DATABASE,
+    }];
+    let mut patterns = Vec::new(alloc);
+    patterns.push(search.pattern.to_vec(alloc)?)?;
+    let query = Query {
+        patterns,
+        matching: Matching::Variants {
+            whole: search.whole,
+        },
+        hypotheses: search.hypotheses,
+    };
+    let mut wanted = Vec::new(alloc);
+    for line in search.lines {
+        wanted.extend_from_slice(line)?;
+    }
+    match find(alloc, Seed::known(), &files, &query) {
+        Ok(text) => Ok(text.as_slice() == wanted.as_slice()),
+        Err(_) => Err(Fail::from("refused")),
+    }
+}
+
+#[test]
+fn finds_variants_by_types(rt: HostRuntime) -> Result<(), Fail> {
+    for search in [
+        variants(&[b"s", b"=", b"s"], true, false, &[TH1]),
+        variants(&[b"|-", b"s", b"=", b"s"], true, false, &[TH1]),
+        variants(&[b"s", b"=", b"r"], false, false, &[WEQ, A1]),
+        variants(&[b"s", b"=", b"r"], true, false, &[WEQ]),
+        variants(&[b"P", b"=", b"P"], false, false, &[]),
+        variants(&[b"(", b"Q", b"->", b"P", b")"], false, true, &[WIM, MP]),
+        variants(&[b"(", b"Q", b"->", b"P", b")"], false, false, &[WIM]),
+        variants(&[b"(", b"$?", b"->", b"P", b")"], false, true, &[WIM, MP]),
+        variants(&[b"r", b"$?", b"s", b"->"], false, false, &[A1]),
+        variants(&[b"+", b"0", b")", b"=", b"r"], false, false, &[A2]),
+        variants(&[b"$*"], false, false, &[]),
+        variants(&[], false, false, &[TZE, TPL, WEQ, WIM, A1, A2, MP, TH1]),
+    ] {
+        assert!(rt; finds_variants(rt.alloc(), &search)?);
+    }
+    Ok(())
+}
+
 #[test]
 fn refuses_meaning(rt: HostRuntime) -> Result<(), Fail> {
     let files = [File {
@@ -147,7 +218,8 @@ fn refuses_meaning(rt: HostRuntime) -> Result<(), Fail> {
         bytes: b"$c a $. p $p a $= no $. q $a b $.",
     }];
     let query = Query {
-        shapes: Vec::new(rt.alloc()),
+        patterns: Vec::new(rt.alloc()),
+        matching: Matching::Shapes,
         hypotheses: false,
     };
     let is_refused = match find(rt.alloc(), Seed::known(), &files, &query) {
@@ -169,6 +241,7 @@ fn replies_to_words(rt: HostRuntime) -> Result<(), Fail> {
     let sought = Sought {
         patterns: &[b" =  t ", b"( $? + $* )"],
         whole: false,
+        shape: false,
         hypotheses: false,
     };
     let reply = find_reply(rt.alloc(), Seed::known(), &files, &sought)?;

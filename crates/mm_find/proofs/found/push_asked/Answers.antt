@@ -1,9 +1,8 @@
 -- The line follows, or nothing.
-use Rattle.std.proofs.Common.{◌≡◌, inl, inr, refl, sym, subst, ◌∙◌, [], append-nil, ap}
+use Rattle.std.proofs.Common.{inl, inr, refl, sym, subst, ◌∙◌, [], append-nil}
 use Rattle.std.proofs.lemmas.Bool.{false≢true}
 use Rattle.std.proofs.lemmas.Result.{on_ok_weaker}
 use Rattle.mm_frame.specs.Sentence.{IsAssertion}
-use Rattle.mm_base.specs.declared.statement.Kind.{Kind}
 use Rattle.mm_find.specs.Plain.{plain_assertion}
 use Rattle.mm_find.specs.Found.{line_of}
 use Rattle.mm_find.proofs.found.push_asked.Goals as goal

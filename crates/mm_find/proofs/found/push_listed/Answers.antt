@@ -1,5 +1,5 @@
 -- By whether the statement is an assertion.
-use Rattle.std.proofs.Common.{◌≡◌, inr, refl, sym, ap, ◌∙◌, [], append-nil, subst}
+use Rattle.std.proofs.Common.{inr, refl, sym, [], append-nil}
 use Rattle.std.proofs.lemmas.Result.{on_ok_weaker}
 use Rattle.mm_frame.specs.Sentence.{sentence_of}
 use Rattle.mm_find.proofs.Assertions.{asserts_nothing, last_asserted}

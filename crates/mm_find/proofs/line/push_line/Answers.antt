@@ -1,5 +1,5 @@
 -- The words follow one another.
-use Rattle.std.proofs.Common.{ap, ◌∙◌, ◌++◌, ◌∷◌, List, ℕ, codes}
+use Rattle.std.proofs.Common.{ap, ◌∙◌, ◌++◌, List, ℕ, codes}
 use Rattle.mm_base.specs.Statement.{keyword_of}
 use Rattle.mm_code.specs.Layout.{texts}
 use Rattle.mm_rules.specs.Shown.{symbols_text}

@@ -1,5 +1,5 @@
 -- By whether there are others.
-use Rattle.std.proofs.Common.{◌≡◌, ◌∙◌, ℕ, length, arith}
+use Rattle.std.proofs.Common.{◌∙◌, arith}
 use Rattle.mm_find.proofs.AssertionLines.{last_sign, other_sign}
 use Rattle.mm_find.proofs.line.sign_before.Goals as goal
 

@@ -1,4 +1,4 @@
--- The shapes are those of the query.
+-- The patterns are those of the query.
 use Rattle.mm_find.proofs.query.is_asked_for.Goals as goal
 
 pub returns : goal.returns

@@ -1,23 +1,16 @@
--- One shape more is that of the next pattern.
-use Rattle.std.proofs.Common.{◌≡◌, ◌≤◌, ◌∙◌, ap, length}
-use Rattle.mm_base.specs.MostBytes.{most_bytes}
+-- By whether variants are asked for.
 use Rattle.mm_code.specs.Layout.{texts}
-use Rattle.mm_find.specs.Shape.{shape_of}
-use Rattle.mm_find.proofs.Replies.{each_at, shapes_next}
+use Rattle.mm_find.proofs.Replies.{shapes_query, variants_query}
 use Rattle.mm_find.proofs.reply.query_for.Goals as goal
 
-pub tokens_of-requires : goal.tokens_of-requires
-tokens_of-requires c =
-    each_at (λ p. length p ≤ most_bytes) c.args.sought.now.patterns.now c.loop-pattern.pattern-index
-    _
-    c.requires c.loop-pattern-test.true
+pub returns-then-sought : goal.returns-then-sought
+returns-then-sought c =
+    variants_query (texts c.args.sought.now.patterns.now) c.args.sought.now.whole
+    c.args.sought.now.shape c.args.sought.now.hypotheses _ c.if-sought.true
+    c.in_ok-variants_for.ensures
 
-pub loop-pattern-preserved : goal.loop-pattern-preserved
-loop-pattern-preserved c =
-    shapes_next c.args.sought.now.whole c.args.sought.now.patterns.now c.loop-pattern.pattern-index
-    _
-    c.loop-pattern.shapes.items c.push.new.self.items c.in_ok-shape.shape c.loop-pattern-test.true
-    (c.in_ok-shape.ensures
-    ∙ ap (λ ts. shape_of c.args.sought.now.whole (texts ts)) c.deref.ensures.value
-    ∙ ap (shape_of c.args.sought.now.whole) c.in_ok-tokens.ensures.tokens)
-    c.in_ok-push.ensures.items c.loop-pattern.invariant
+pub returns : goal.returns
+returns c =
+    shapes_query (texts c.args.sought.now.patterns.now) c.args.sought.now.whole
+    c.args.sought.now.shape c.args.sought.now.hypotheses _ c.if-sought.false
+    c.in_ok-shapes_for.ensures

@@ -11,7 +11,9 @@ returns-clause-shape c =
     pattern_line c.options_argument.ensures.rule in
     let whole_line = c.with_argument-command-3.ensures.shape _ _ c.flag_argument.ensures.local
     and_line c.flag_argument.ensures.rule in
-    let hypotheses_line = c.with_argument-command-4.ensures.shape _ _
+    let shape_line = c.with_argument-command-4.ensures.shape _ _
     c.flag_argument-2.ensures.local whole_line c.flag_argument-2.ensures.rule in
+    let hypotheses_line = c.with_argument-command-5.ensures.shape _ _
+    c.flag_argument-3.ensures.local shape_line c.flag_argument-3.ensures.rule in
     c.with_argument.ensures.shape _ _ c.files_argument.ensures.local
     hypotheses_line c.files_argument.ensures.rule

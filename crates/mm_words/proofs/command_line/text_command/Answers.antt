@@ -1,5 +1,5 @@
 -- The line is made of the rules of the arguments, one after the other.
-use Rattle.std.proofs.Common.{codes, rules}
+use Rattle.std.proofs.Common.{rules}
 use Rattle.clap.specs.Words.{new_app}
 use Rattle.mm_words.proofs.command_line.text_command.Goals as goal
 

@@ -4,7 +4,7 @@ use Rattle.mm_code.specs.Layout.{texts}
 use Rattle.mm_code.specs.Words.{tokens_in}
 use Rattle.mm_find.specs.Plain.{expressions_in}
 use Rattle.mm_find.specs.Shape.{shape_of}
-use Rattle.mm_find.proofs.reply.query_for.Given as goal
+use Rattle.mm_find.proofs.reply.shapes_for.Given as goal
 
 abbrev pub invariant-loop-pattern : goal.invariant-loop-pattern
 invariant-loop-pattern l =

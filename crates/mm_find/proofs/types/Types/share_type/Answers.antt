@@ -1,0 +1,1 @@
+-- Both have a type code, and it is the same.
