@@ -288,6 +288,18 @@ ends 3 'text A3 0\n  step 1, tze at 1:1, gives\n    term 0\n  th states\n    ter
 printf 'tze tpl\n' >th.txt
 ends 1 'text P8 2\nth.txt:1:5: P8: the stack has fewer entries than the step takes, at step 2\n  step: tpl\n  entries it takes: 2, entries there are: 1\n  tt states\n    term t\n  tr states\n    term r\n  step 1, tze at 1:1, gives\n    term 0\n' '' \
     try th th.txt first.mm
+printf '$= $( a $) tze tze $( b\n$)\n tpl $.\n$( c $)' >th.txt
+ends 0 'proof\n' '' try th th.txt first.mm
+ends 1 'text X9 0\n' '' same th th.txt first.mm
+printf '$= $( a $) tpl $.\n' >th.txt
+ends 1 'text P8 1\nth.txt:1:12: P8: the stack has fewer entries than the step takes, at step 1\n  step: tpl\n  entries it takes: 2, entries there are: 0\n  tt states\n    term t\n  tr states\n    term r\n' '' \
+    try th th.txt first.mm
+printf 'tze $. tze tpl\n' >th.txt
+ends 1 'text X9 0\nth.txt:1:5: X9: a token with $ is no keyword\n  token: $.\n' '' try th th.txt first.mm
+ends 1 'text X9 0\n' '' same th th.txt first.mm
+printf 'tze tze tpl\n$( open' >th.txt
+ends 1 "text X2 0\nth.txt:2:1: X2: a comment isn't closed in its file\n  token: \$(\n" '' \
+    try th th.txt first.mm
 ends 1 'ask A1 none\n' '' try none th.txt first.mm
 ends 0 'th tze tpl\n' '' axioms --all first.mm
 ends 3 '? open\nhalf step ?open\nfull one step\n' '' axioms --all rests.mm

@@ -5,9 +5,6 @@ use Rattle.std.proofs.lemmas.List.{map-append}
 use Rattle.mm_text.specs.Files.{PlainFile}
 use Rattle.mm_base.specs.Statement.{PlainStatement}
 use Rattle.mm_text.proofs.Reader.WholeReadings.{readings_are_formed_in_place}
-use Rattle.mm_text.specs.declared.fault.LoadRule.TheVariants.{F3}
-use Rattle.mm_text.specs.declared.fault.TextRule.TheVariants.{X1, X9}
-use Rattle.mm_code.specs.Words.{tokens_in}
 use Rattle.mm_frame.specs.Form.{AllFormed}
 use Rattle.mm_frame.specs.Rules.{AllMeant}
 use Rattle.mm_frame.specs.Sentence.{Sentence, sentence_of}
@@ -18,15 +15,12 @@ use Rattle.mm_proof.specs.Tokens.{is_incomplete}
 use Rattle.mm_proof.specs.UnderProfile.{IsProvedUnder, IsPrefixAllowedUnder}
 use Rattle.mm_proof.proofs.ProofVerdicts.ProfileVerdicts.{one_verdict_under_holds}
 use Rattle.mm_proof.proofs.ProofVerdicts.ProfileVerdicts.{one_prefix_verdict_under_holds}
-use Rattle.mm_rules.specs.declared.rule.AskRule.TheVariants.{A3}
-use Rattle.mm_rules.specs.declared.rule.Rule.{Rule}
-use Rattle.mm_rules.specs.declared.rule.Rule.TheVariants as rules
-use Rattle.mm_verdict.specs.Alone.{BreaksTokens, HasProofTokens}
 use Rattle.mm_check.specs.AloneLaws.{OwnProofIsTriedAlike, TellAlike}
 use Rattle.mm_facts.specs.Explained.{IsTokensFault}
 use Rattle.mm_verdict.specs.declared.question.Telling.{Telling}
 use Rattle.mm_check.specs.Reply.{IsKnownReply}
 use Rattle.mm_explain.specs.Reply.{IsTokensReply}
+use Rattle.mm_rules.specs.ProofText.{proof_words}
 use Rattle.mm_rules.specs.Verdict.{proof_of, sentences}
 use Rattle.mm_rules.proofs.Judgements.JudgedProofs.{prefix_of}
 use Rattle.mm_verdict.proofs.Verdicts.OneVerdict.{formed_before}
@@ -64,24 +58,16 @@ module _ (before : List Sentence) (s : Sentence) (tokens : List (List ℕ)) (mea
 
 -- ---- the two replies
 
--- a text that has tokens of a proof breaks no rule of texts
-no_break : (rule : Rule) (text : List ℕ) → HasProofTokens text → BreaksTokens rule text → ⊥
-no_break (rules.Load F3) text has breaks = absurd (omega (arith, has.taken, breaks))
-no_break (rules.Text X1) text has breaks = cc (breaks.1, has.printable)
-no_break (rules.Text X9) text has breaks = cc (breaks.2, has.plain)
-no_break (rules.Ask A3) text has breaks = breaks
-no_break rule text has breaks = absurd breaks
-
 module _ (telling : Telling) (files : List PlainFile) (before : List PlainStatement)
     (s : PlainStatement) (proof : PlainFile) (tried : List ℕ) (tried_status : ℕ)
     (known : List ℕ) (known_status : ℕ)
     (meant : AllMeant (sentences before)) (formed : AllFormed (sentences before))
-    (same : tokens_in proof.bytes ≡ proof_of s) where
+    (same : proof_words proof.bytes ≡ proof_of s) where
   abbrev Own : ProofRule → ℕ → Type 0
   Own rule step = IsTokensFault Lenient (sentences before) (sentence_of s) (proof_of s) rule step
 
   own_fault : (rule : ProofRule) (step : ℕ)
-      → IsTokensFault Lenient (sentences before) (sentence_of s) (tokens_in proof.bytes) rule step
+      → IsTokensFault Lenient (sentences before) (sentence_of s) (proof_words proof.bytes) rule step
       → Own rule step
   own_fault rule step f =
       subst (λ ts. IsTokensFault Lenient (sentences before) (sentence_of s) ts rule step) same f
@@ -120,8 +106,10 @@ module _ (telling : Telling) (files : List PlainFile) (before : List PlainStatem
 
 pub own_proof_is_tried_alike : OwnProofIsTriedAlike
 own_proof_is_tried_alike telling files label before s proof tried tried_status known known_status
-    there has same (inl (rule, breaks, told)) known_reply =
-    absurd (no_break rule proof.bytes has breaks)
+    there has same (inl (inl (long, told))) known_reply =
+    absurd (omega (arith, long, has.taken))
+own_proof_is_tried_alike telling files label before s proof tried tried_status known known_status
+    there has same (inl (inr fault)) known_reply = absurd (cc (fault.broken, has.faultless))
 own_proof_is_tried_alike telling files label before s proof tried tried_status known known_status
     there has same (inr (taken, reply)) known_reply =
     let at = there.0 in

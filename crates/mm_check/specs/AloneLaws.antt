@@ -2,7 +2,6 @@
 use Rattle.std.specs.Prelude.{◌≡◌, ◌⊎◌, ℕ, List, [], codes}
 use Rattle.mm_text.specs.Files.{PlainFile}
 use Rattle.mm_base.specs.Statement.{PlainStatement}
-use Rattle.mm_code.specs.Words.{tokens_in}
 use Rattle.mm_frame.specs.Sentence.{sentence_of}
 use Rattle.mm_verdict.specs.Alone.{HasProofTokens, IsTheoremAt}
 use Rattle.mm_verdict.specs.Reply.{line_with}
@@ -10,6 +9,7 @@ use Rattle.mm_check.specs.Reply.{IsKnownFault, IsCheckedPrefix, IsKnownReply}
 use Rattle.mm_explain.specs.Reply.{IsTriedFault, IsTriedPrefix, IsTryReply}
 use Rattle.mm_verdict.specs.declared.question.Telling.{Telling}
 use Rattle.mm_check.specs.Told.{TellsMoves}
+use Rattle.mm_rules.specs.ProofText.{proof_words}
 use Rattle.mm_rules.specs.Verdict.{proof_of, sentences}
 
 -- What is told of a text and what is told of the theorem's own proof agree: both are proofs; both
@@ -35,7 +35,7 @@ OwnProofIsTriedAlike =
     (s : PlainStatement)
     (proof : PlainFile) (tried : List ℕ) (tried_status : ℕ) (known : List ℕ) (known_status : ℕ)
     → IsTheoremAt files label before s → HasProofTokens proof.bytes
-    → tokens_in proof.bytes ≡ proof_of s
+    → proof_words proof.bytes ≡ proof_of s
     → IsTryReply proof (sentences before) (sentence_of s) tried tried_status
     → IsKnownReply telling files before s known known_status
     → TellAlike telling files before s proof tried tried_status known known_status

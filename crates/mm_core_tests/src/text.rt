@@ -3,7 +3,7 @@
 use mm_base::{File, Kind, Seed, Statement, Token};
 use mm_text::{
     LoadFault, LoadRule, Statements, TextFault, TextRule, WriteFault, alike_files_are_read_alike,
-    one_reading, proof_spans_follow, proofs_stand_in_spans, replaced_proofs_are_read,
+    one_reading, proof_spans_follow, proofs_stand_in_spans, replaced_proofs_are_read, shown_tokens,
 };
 use std::alloc::Global;
 use std::test::Fail;
@@ -407,6 +407,20 @@ fn faults_of_files_and_devices_have_messages(rt: HostRuntime) -> Result<(), Fail
     assert!(rt; has_message(rt.alloc(), of_files, "the files break F1")?);
     let text = format!(in rt.alloc(); "{}; {}", LoadFault::Device, WriteFault)?;
     assert!(rt; text.as_str() == "a read failed; a write failed");
+    Ok(())
+}
+
+// The tokens outside comments, up to the first fault.
+#[test]
+fn tokens_stand_outside_comments(rt: HostRuntime) -> Result<(), Fail> {
+    let shown = shown_tokens(rt.alloc(), b"$( a $) b$ $( c $)\nd $( open")?;
+    let mut told = Vec::new(rt.alloc());
+    for token in &shown.tokens {
+        told.push((token.text, token.at))?;
+    }
+    assert!(rt; told.as_slice() == [(b"b$".as_slice(), 8), (b"d".as_slice(), 19)].as_slice());
+    let at = shown.fault.map(|wrong| (wrong.rule, wrong.token.at));
+    assert!(rt; at == Some((TextRule::X2, 21)));
     Ok(())
 }
 

@@ -4,7 +4,6 @@ use Rattle.std.specs.Prelude.{◌≡◌, ℕ, ◌-◌, ◌==◌, if◌then◌els
 use Rattle.std.specs.Prelude.{take, length, not, Option, Some, None, codes}
 use Rattle.std.specs.Prelude.{decimal}
 use Rattle.std.specs.List.{flat_map, AllZip}
-use Rattle.mm_base.specs.Token.{tokens_from}
 use Rattle.mm_base.specs.Statement.{PlainStatement}
 use Rattle.mm_text.specs.Files.{PlainFile}
 use Rattle.mm_text.specs.Reading.{PlainFault, Reads}
@@ -16,6 +15,7 @@ use Rattle.mm_rules.specs.declared.rule.Rule.{Rule}
 use Rattle.mm_rules.specs.declared.rule.Rule.TheVariants as rules
 use Rattle.mm_rules.specs.RuleCodes.{code_of}
 use Rattle.mm_rules.specs.Meanings.{meaning_of}
+use Rattle.mm_rules.specs.ProofText.{proof_end, proof_tokens}
 use Rattle.mm_rules.specs.Verdict.{PlainRefusal, sentences, proof_of}
 use Rattle.mm_rules.specs.Faults.{IsProofRefusal}
 use Rattle.mm_facts.specs.Explained.{Detail, AreDetails, details_text}
@@ -56,11 +56,12 @@ head_at files file at rule label step =
 abbrev pub head_text : List PlainFile → (at : ℕ) → PlainRefusal → List ℕ
 head_text files at r = head_at files r.file at r.rule r.label r.step
 
--- that of the first fault of a text that is handed in, among its bytes, as a proof of the `$p`
+-- that of the first fault of the proof in a text that is handed in, among its bytes, as one of the
+-- `$p`
 abbrev pub IsTextPlace : Profile → (before : List Sentence) → Sentence → (text : List ℕ)
     → ProofRule → (step : ℕ) → (at : ℕ) → Type 0
 IsTextPlace profile before s text rule step at =
-    IsPlaceAmong profile before s (tokens_from 0 0 text) (length text) rule step at
+    IsPlaceAmong profile before s (proof_tokens text) (proof_end text) rule step at
 
 -- ---- explanations
 

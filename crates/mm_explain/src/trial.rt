@@ -1,11 +1,11 @@
 //! `mm try`: whether a text proves a theorem, whatever proof its file has.
 
-ghost use Rattle.std.specs.Prelude.{◌≡◌, ◌≤◌, ℕ, length, map, take, IfOk, IfErr};
+ghost use Rattle.std.specs.Prelude.{◌≡◌, ◌≤◌, ℕ, length, map, take, IfOk, IfErr, Some};
 ghost use Rattle.std.specs.List.{sum_by};
 ghost use Rattle.mm_base.specs.MostBytes.{most_bytes};
-ghost use Rattle.mm_base.specs.Token.{plain_token, tokens_from};
+ghost use Rattle.mm_base.specs.Token.{plain_token};
 ghost use Rattle.mm_text.specs.Files.{plain_file};
-ghost use Rattle.mm_code.specs.Words.{tokens_in};
+ghost use Rattle.mm_text.specs.Shown.{broken_at};
 ghost use Rattle.mm_frame.specs.Sentence.{Sentence};
 ghost use Rattle.mm_proof.specs.Answer.{OnRule};
 ghost use Rattle.mm_step.specs.declared.profile.Profile.TheVariants.{Lenient};
@@ -16,17 +16,21 @@ ghost use Rattle.mm_proof.specs.Tokens.{is_incomplete};
 ghost use Rattle.mm_facts.specs.Explained.{judged_tokens};
 ghost use Rattle.mm_facts.specs.Explained.{IsTokensFault};
 ghost use Rattle.mm_explain.specs.Mirror.Reached.{AreTried};
-ghost use Rattle.mm_explain.specs.Reply.{IsTokensReply, IsTriedFault, IsTriedPrefix, IsTryReply};
+ghost use Rattle.mm_explain.specs.Reply.{IsTextFault, IsTokensReply, IsTriedFault, IsTriedPrefix};
+ghost use Rattle.mm_explain.specs.Reply.{IsTryReply, IsUntried};
+ghost use Rattle.mm_rules.specs.ProofText.{broken_in, proof_end, proof_tokens, proof_words};
 ghost use Rattle.mm_rules.specs.Status.{number_of};
+ghost use Rattle.mm_verdict.specs.Mirror.Reached.{IsUnhanded};
 
 use crate::why::push_head_at;
 use mm_base::{File, Token};
-use mm_facts::{cause_of, place_among, push_cause, push_left_over};
+use mm_facts::{cause_of, place_among, push_cause, push_left_over, push_token};
 use mm_frame::{Book, LabelId};
 use mm_proof::{Parsed, Proved, Steps, verify};
-use mm_rules::{AskRule, Rule, Status};
+use mm_rules::{AskFault, AskRule, Rule, Status};
 use mm_step::{Flat, Profile, ProofFault, ProofRule};
-use mm_verdict::{Reply, ask_reply, handed_tokens, refused_text, text_status};
+use mm_text::{LoadRule, Wrong};
+use mm_verdict::{Reply, Unhanded, ask_reply, handed_tokens, refused_text, text_status};
 use std::alloc::{AllocError, Global};
 
 /// The steps that the tokens say as a proof of the `$p` with the number, or that their known prefix
@@ -92,8 +96,8 @@ fn prefix_reply(
     tokens: &[Token],
 ) -> Result<Reply, AllocError>
     requires proof { (index : ℕ) × (s : Sentence) × IsProofNumber book.now.statements id.0 index s }
-    requires tokens { token_texts tokens.now ≡ tokens_in proof.now.bytes.now }
-    requires places { map plain_token tokens.now ≡ tokens_from 0 0 proof.now.bytes.now }
+    requires tokens { token_texts tokens.now ≡ proof_words proof.now.bytes.now }
+    requires places { map plain_token tokens.now ≡ proof_tokens proof.now.bytes.now }
     requires room { sum_by length (token_texts tokens.now) ≤ most_bytes }
     requires tried { OfProof book.now.statements id.0 (λ index s.
         AreTried (take index book.now.statements) s (token_texts tokens.now) Proved.Incomplete) }
@@ -118,7 +122,7 @@ fn prefix_reply(
     })
 }
 
-/// The reply where the tokens of the text in a file have this first fault: the fault, and what
+/// The reply where the proof in the text of a file has this first fault: the fault, and what
 /// explains it, with its place in that file.
 fn fault_reply(
     alloc: Global,
@@ -126,12 +130,13 @@ fn fault_reply(
     id: LabelId,
     proof: &File,
     tokens: &[Token],
+    end: usize,
     fault: (ProofRule, usize),
 ) -> Result<Reply, AllocError>
     requires proof { (index : ℕ) × (s : Sentence) × IsProofNumber book.now.statements id.0 index s }
-    requires tokens { token_texts tokens.now ≡ tokens_in proof.now.bytes.now }
-    requires places { map plain_token tokens.now ≡ tokens_from 0 0 proof.now.bytes.now }
-    requires size { length proof.now.bytes.now ≤ most_bytes }
+    requires tokens { token_texts tokens.now ≡ proof_words proof.now.bytes.now }
+    requires places { map plain_token tokens.now ≡ proof_tokens proof.now.bytes.now }
+    requires end { end ≡ proof_end proof.now.bytes.now }
     requires room { sum_by length (token_texts tokens.now) ≤ most_bytes }
     requires fault { OfProof book.now.statements id.0 (λ index s.
         IsTokensFault Lenient (take index book.now.statements) s (token_texts tokens.now) fault.0
@@ -143,7 +148,7 @@ fn fault_reply(
     let profile = Profile::Lenient;
     let rule = Rule::Proof(fault.0);
     let cause = cause_of(alloc, &[*proof], profile, book, id, tokens, fault)?;
-    let at = place_among(tokens, proof.bytes.len(), &cause);
+    let at = place_among(tokens, end, &cause);
     let mut text = refused_text(alloc, rule, fault.1)?;
     push_head_at(&mut text, &[*proof], (0, at), (rule, fault.1), None)?;
     push_cause(&mut text, alloc, profile, book, id, &cause, fault.0)?;
@@ -160,11 +165,12 @@ fn tokens_reply(
     id: LabelId,
     proof: &File,
     tokens: &[Token],
+    end: usize,
 ) -> Result<Reply, AllocError>
     requires proof { (index : ℕ) × (s : Sentence) × IsProofNumber book.now.statements id.0 index s }
-    requires tokens { token_texts tokens.now ≡ tokens_in proof.now.bytes.now }
-    requires places { map plain_token tokens.now ≡ tokens_from 0 0 proof.now.bytes.now }
-    requires size { length proof.now.bytes.now ≤ most_bytes }
+    requires tokens { token_texts tokens.now ≡ proof_words proof.now.bytes.now }
+    requires places { map plain_token tokens.now ≡ proof_tokens proof.now.bytes.now }
+    requires end { end ≡ proof_end proof.now.bytes.now }
     requires room { sum_by length (token_texts tokens.now) ≤ most_bytes }
     ensures { IfOk result (λ reply. OfProof book.now.statements id.0 (λ index s.
         IsTokensReply (plain_file proof.now) (take index book.now.statements) s reply.text.items
@@ -177,9 +183,45 @@ fn tokens_reply(
         }),
         Ok(Proved::Incomplete) => prefix_reply(alloc, book, id, proof, tokens),
         Err(ProofFault::Rule { rule, step }) => {
-            fault_reply(alloc, book, id, proof, tokens, (rule, step))
+            fault_reply(alloc, book, id, proof, tokens, end, (rule, step))
         }
         Err(ProofFault::Memory) => Err(AllocError),
+    }
+}
+
+/// The reply where the text in a file is wrong itself: the rule, and what explains it, with its
+/// place in that file.
+fn wrong_reply(alloc: Global, proof: &File, wrong: Wrong) -> Result<Reply, AllocError>
+    requires size { length proof.now.bytes.now ≤ most_bytes }
+    requires broken { broken_in proof.now.bytes.now ≡ Some (broken_at wrong) }
+    ensures { IfOk result (λ reply.
+        IsTextFault (plain_file proof.now) reply.text.items (number_of reply.status)) }
+{
+    let rule = Rule::Text(wrong.rule);
+    let mut text = refused_text(alloc, rule, 0)?;
+    let position = (0, wrong.token.at as usize);
+    push_head_at(&mut text, &[*proof], position, (rule, 0), None)?;
+    push_token(&mut text, wrong.token.text)?;
+    Ok(Reply {
+        text,
+        status: text_status(rule),
+    })
+}
+
+/// The reply where the text in a file has no tokens of a proof.
+fn unhanded_reply(alloc: Global, proof: &File, why: Unhanded) -> Result<Reply, AllocError>
+    requires { IsUnhanded proof.now.bytes.now why }
+    ensures { IfOk result (λ reply. IsUntried (plain_file proof.now) reply.text.items
+        (number_of reply.status)) }
+{
+    match why {
+        // A fault of the text alone, which tells no label.
+        Unhanded::Size => {
+            let rule = Rule::Load(LoadRule::F3);
+            ask_reply(alloc, b"", AskFault::Text { rule, step: 0 })
+        }
+        Unhanded::Wrong(wrong) => wrong_reply(alloc, proof, wrong),
+        Unhanded::Memory => Err(AllocError),
     }
 }
 
@@ -191,8 +233,7 @@ pub fn try_reply(alloc: Global, book: &Book, id: LabelId, proof: &File) -> Resul
         (number_of reply.status))) }
 {
     match handed_tokens(alloc, proof.bytes) {
-        Ok(tokens) => tokens_reply(alloc, book, id, proof, &tokens),
-        // A fault of the text alone, which tells no label.
-        Err(fault) => ask_reply(alloc, b"", fault),
+        Ok(handed) => tokens_reply(alloc, book, id, proof, &handed.tokens, handed.end),
+        Err(why) => unhanded_reply(alloc, proof, why),
     }
 }

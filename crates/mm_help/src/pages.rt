@@ -468,17 +468,17 @@ Tells whether the text in the file PROOF is a proof of the theorem with this
 label, whatever stands in the files as its proof. No other proof is judged, and
 nothing after the theorem is read.
 
-The text is only what stands between `$=` and `$.`, in any form. PROOF comes
-before FILES: where they are exchanged, the reply is about the text, taken for a
-database, as `no proof.txt 1 - S2 0`.
+The text is what stands between `$=` and `$.`, in any form. These two may stand
+there too, and comments. PROOF comes before FILES: where they are exchanged, the
+reply is about the text, taken for a database, as `no proof.txt 1 - S2 0`.
 
 Replies:
   proof                                                             status 0
       The text is a proof of the theorem.
   text RULE STEP                                                    status 1, 4
-      It is none: the rule that it breaks, and the step; and then, for rules P
-      and L1, the first line of `mm why`, with the place in PROOF, and the facts
-      that explain it. Status 4 for L1 and F3.
+      It is none: the rule that it breaks, and the step; and then, but for F3,
+      the first line of `mm why`, with the place in PROOF, and the facts that
+      explain it. Status 4 for L1 and F3.
   text A3 0                                                         status 3
       The text holds a `?`, and its known part breaks no rule. What this leaves
       on the stack follows.

@@ -163,8 +163,9 @@ The reply:
         text: "X9: a token outside comments and inclusions holds `$` and is no keyword. Place:
 that token.
 Usual cause: a keyword is misspelled or touches a word, as in `b$.`.
-Remedy: write white space around each keyword; in a text for `mm try` or `mm
-same`, write only what stands between `$=` and `$.`.
+Remedy: write white space around each keyword; in a text for `mm try`, write
+`$=` only as the first token and `$.` only as the last; in one for `mm same`,
+neither.
 
 This file breaks it:
     $c a $.

@@ -14,15 +14,10 @@ use Rattle.mm_step.specs.declared.fault.ProofRule.{ProofRule}
 use Rattle.mm_step.specs.declared.profile.Profile.TheVariants.{Lenient}
 use Rattle.mm_proof.specs.UnderProfile.{IsFaultUnder, IsProvedUnder}
 use Rattle.mm_proof.proofs.ProofVerdicts.ProfileVerdicts.{proved_excludes}
-use Rattle.mm_rules.specs.declared.rule.Rule.{Rule}
-use Rattle.mm_rules.specs.declared.rule.Rule.TheVariants as rules
-use Rattle.mm_rules.specs.declared.rule.AskRule.TheVariants.{A3}
-use Rattle.mm_rules.specs.declared.ask.AskFault.{AskFault}
-use Rattle.mm_rules.specs.declared.ask.AskFault.TheVariants as ask
-use Rattle.mm_text.specs.declared.fault.LoadRule.TheVariants.{F3}
-use Rattle.mm_text.specs.declared.fault.TextRule.TheVariants.{X1, X9}
-use Rattle.mm_verdict.specs.Alone.{BreaksTokens, HasProofTokens}
-use Rattle.mm_verdict.specs.Mirror.Reached.{HasNoTokens}
+use Rattle.mm_verdict.specs.Alone.{HasProofTokens}
+use Rattle.mm_verdict.specs.Mirror.Reached.{IsUnhanded}
+use Rattle.mm_verdict.specs.declared.text.Unhanded.{Unhanded}
+use Rattle.mm_verdict.specs.declared.text.Unhanded.TheVariants.{Size, Wrong, Memory}
 use Rattle.mm_mend.specs.Mend.{exchanged_at, IsMend}
 use Rattle.mm_mend.specs.declared.change.Change.{Change}
 use Rattle.mm_mend.specs.declared.change.Change.TheVariants.{Words}
@@ -61,19 +56,12 @@ on_rule_at fault P on rule step is = rw is at on
 -- ---- a text
 
 -- A text with a fault of its own has no tokens of a proof.
-breaks_none : (rule : Rule) (text : List ℕ) → BreaksTokens rule text → HasProofTokens text → ⊥
-breaks_none (rules.Load F3) text broken has = absurd (omega (arith, has.taken, broken))
-breaks_none (rules.Text X1) text broken has =
-    let other = sym has.printable ∙ broken.1 in absurd (cc)
-breaks_none (rules.Text X9) text broken has =
-    let other = sym has.plain ∙ broken.2 in absurd (cc)
-breaks_none (rules.Ask A3) text broken has = absurd broken
-breaks_none rule text broken has = absurd broken
-
-pub no_tokens : (text : List ℕ) (fault : AskFault) → HasNoTokens text fault
-    → (fault ≡ ask.Memory → ⊥) → HasProofTokens text → ⊥
-no_tokens text fault (inl memory) other has = other memory
-no_tokens text fault (inr (rule, broken, is)) other has = breaks_none rule text broken has
+pub no_tokens : (text : List ℕ) (why : Unhanded) → IsUnhanded text why → (why ≡ Memory → ⊥)
+    → HasProofTokens text → ⊥
+no_tokens text Size long other has = absurd (omega (arith, long, has.taken))
+no_tokens text (Wrong wrong) broken other has =
+    let both = sym has.faultless ∙ broken.1 in absurd (cc)
+no_tokens text Memory memory other has = other refl
 
 -- ---- what a change of a byte is
 

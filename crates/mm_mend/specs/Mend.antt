@@ -9,11 +9,11 @@ use Rattle.std.specs.List.{flat_map, position_or_len, prefix_len, range_with_len
 use Rattle.mm_base.specs.Statement.{PlainStatement}
 use Rattle.mm_base.specs.Token.{is_space}
 use Rattle.mm_text.specs.Files.{PlainFile}
-use Rattle.mm_code.specs.Words.{tokens_in}
 use Rattle.mm_frame.specs.Sentence.{Sentence}
 use Rattle.mm_step.specs.declared.profile.Profile.TheVariants.{Lenient}
 use Rattle.mm_proof.specs.UnderProfile.{IsProvedUnder}
 use Rattle.mm_rules.specs.Places.{bytes_of}
+use Rattle.mm_rules.specs.ProofText.{proof_words}
 use Rattle.mm_verdict.specs.Alone.{HasProofTokens}
 use Rattle.mm_mend.specs.declared.change.Change.{Change}
 use Rattle.mm_mend.specs.declared.change.Change.TheVariants.{Words, Removed, Exchanged, Replaced}
@@ -46,7 +46,7 @@ text_with (Put at byte) text = spliced at 0 (byte ∷ []) text
 -- a text may be handed in, and its tokens are a proof of the `$p`
 abbrev pub IsProofText : (before : List Sentence) → Sentence → (text : List ℕ) → Type 0
 IsProofText before s text =
-    HasProofTokens text × IsProvedUnder Lenient before s (tokens_in text)
+    HasProofTokens text × IsProvedUnder Lenient before s (proof_words text)
 
 -- The change mends the proof of the `$p` with these tokens and this text: after it these are a
 -- proof of it.

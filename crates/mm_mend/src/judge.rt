@@ -17,9 +17,8 @@ use crate::change::{Change, changed_text, exchanged_tokens};
 use mm_base::Token;
 use mm_frame::{Book, LabelId};
 use mm_proof::{StepsReader, verify};
-use mm_rules::AskFault;
 use mm_step::{Flat, Profile, ProofFault, ProofRule};
-use mm_verdict::handed_tokens;
+use mm_verdict::{Unhanded, handed_tokens};
 use std::alloc::{AllocError, Global};
 
 /// The rule and the step of a fault.
@@ -77,14 +76,13 @@ fn is_proof(alloc: Global, book: &Book, id: LabelId, tokens: &[Token]) -> Result
 }
 
 /// That a text with a fault of its own is no proof.
-fn no_proof(fault: AskFault) -> Result<bool, AllocError>
-    ensures { IfOk result (λ yes. (yes ≡ false) × (fault ≢ AskFault.Memory)) }
+fn no_proof(why: Unhanded) -> Result<bool, AllocError>
+    ensures { IfOk result (λ yes. (yes ≡ false) × (why.entry ≢ Unhanded.Memory)) }
 {
-    match fault {
-        AskFault::Memory => Err(AllocError),
-        AskFault::Rule(_) => Ok(false),
-        AskFault::F3 => Ok(false),
-        AskFault::Text { .. } => Ok(false),
+    match why {
+        Unhanded::Memory => Err(AllocError),
+        Unhanded::Size => Ok(false),
+        Unhanded::Wrong(_) => Ok(false),
     }
 }
 
@@ -96,8 +94,8 @@ fn is_proof_text(alloc: Global, book: &Book, id: LabelId, text: &[u8]) -> Result
         (IsTrue yes) ↔ (IsProofText (take index book.now.statements) s text.now))) }
 {
     match handed_tokens(alloc, text) {
-        Ok(tokens) => is_proof(alloc, book, id, &tokens),
-        Err(fault) => no_proof(fault),
+        Ok(handed) => is_proof(alloc, book, id, &handed.tokens),
+        Err(why) => no_proof(why),
     }
 }
 

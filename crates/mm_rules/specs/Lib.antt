@@ -8,6 +8,7 @@ pub mod Faults
 pub mod Rests
 pub mod Shown
 pub mod Forms
+pub mod ProofText
 pub mod Compared
 pub mod Answer
 pub mod Mirror

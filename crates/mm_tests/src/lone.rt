@@ -8,7 +8,22 @@ use mm_check::Telling::Steps;
 use mm_core_tests::databases::{FIRST, FIRST_HEAD};
 
 /// Texts that are proofs of a theorem, whatever stands as its proof.
-pub(crate) const TRIED: [(Command<'static>, Case); 5] = [
+pub(crate) const TRIED: [(Command<'static>, Case); 6] = [
+    (
+        Lone {
+            label: b"th",
+            question: Try {
+                name: b"th.txt",
+                text: b"$( a $. $) $= $( $= $)\n  tze $( tpl $) tze tpl $( b $)\n$. $( c $)\n",
+            },
+        },
+        Case {
+            name: "a text with comments, and with what stands around a proof",
+            files: &[(b"first.mm", &[Text(FIRST)])],
+            reply: b"proof\n",
+            status: 0,
+        },
+    ),
     (
         Lone {
             label: b"th",
@@ -106,7 +121,47 @@ pub(crate) const TRIED: [(Command<'static>, Case); 5] = [
 ];
 
 /// Texts that are no proofs of a theorem, each with what explains it at its place in their file.
-pub(crate) const TRIED_FAULTS: [(Command<'static>, Case); 6] = [
+pub(crate) const TRIED_FAULTS: [(Command<'static>, Case); 8] = [
+    (
+        Lone {
+            label: b"th",
+            question: Try {
+                name: b"th.txt",
+                text: b"$= $( a $) tze\n $( b $) unknown tpl $.\n",
+            },
+        },
+        Case {
+            name: "a label behind a comment is unknown",
+            files: &[(b"first.mm", &[Text(FIRST)])],
+            reply: b"text P2 0
+th.txt:2:10: P2: no earlier statement has the label
+  token: unknown
+",
+            status: 1,
+        },
+    ),
+    (
+        Lone {
+            label: b"th",
+            question: Try {
+                name: b"th.txt",
+                text: b"$= tze $( a $)\n $. $( b $)\n",
+            },
+        },
+        Case {
+            name: "another expression is proved at the end of a proof",
+            files: &[(b"first.mm", &[Text(FIRST)])],
+            reply: b"text P14 2
+th.txt:2:2: P14: the proof proves something else than is stated, at step 2
+  it states
+    term ( 0 + 0 )
+  but step 1, tze at 1:4, gives
+    term 0
+  they differ at symbol 2: 0 where ( is asked
+",
+            status: 1,
+        },
+    ),
     (
         Lone {
             label: b"th",
@@ -231,20 +286,23 @@ th.txt:1:1: P13: the proof doesn't leave exactly one entry, at step 1
     ),
 ];
 
-/// Texts that may stand in no proof.
-pub(crate) const NO_TOKENS: [(Command<'static>, Case); 2] = [
+/// Texts that may stand in no proof, each with its place.
+pub(crate) const NO_TOKENS: [(Command<'static>, Case); 7] = [
     (
         Lone {
             label: b"th",
             question: Try {
                 name: b"th.txt",
-                text: b"tze \x01 $.",
+                text: b"tze $. \x01",
             },
         },
         Case {
             name: "a text holds a byte that none may hold",
             files: &[(b"first.mm", &[Text(FIRST)])],
-            reply: b"text X1 0\n",
+            reply: b"text X1 0
+th.txt:1:8: X1: a token holds a byte outside 0x21 to 0x7E
+  token: \x01
+",
             status: 1,
         },
     ),
@@ -253,13 +311,106 @@ pub(crate) const NO_TOKENS: [(Command<'static>, Case); 2] = [
             label: b"th",
             question: Try {
                 name: b"th.txt",
-                text: b"tze ? tpl $.",
+                text: b"tze $. tpl\n$( tpl",
+            },
+        },
+        Case {
+            name: "a comment of a text isn't closed",
+            files: &[(b"first.mm", &[Text(FIRST)])],
+            reply: b"text X2 0
+th.txt:2:1: X2: a comment isn't closed in its file
+  token: $(
+",
+            status: 1,
+        },
+    ),
+    (
+        Lone {
+            label: b"th",
+            question: Try {
+                name: b"th.txt",
+                text: b"$( a $( b $) tze",
+            },
+        },
+        Case {
+            name: "a comment of a text holds another one",
+            files: &[(b"first.mm", &[Text(FIRST)])],
+            reply: b"text X3 0
+th.txt:1:6: X3: a token in a comment holds $( or $)
+  token: $(
+",
+            status: 1,
+        },
+    ),
+    (
+        Lone {
+            label: b"th",
+            question: Try {
+                name: b"th.txt",
+                text: b"tze $( a $) $)",
+            },
+        },
+        Case {
+            name: "a comment of a text is closed twice",
+            files: &[(b"first.mm", &[Text(FIRST)])],
+            reply: b"text X4 0
+th.txt:1:13: X4: $) stands outside a comment, or $] outside an inclusion
+  token: $)
+",
+            status: 1,
+        },
+    ),
+    (
+        Lone {
+            label: b"th",
+            question: Try {
+                name: b"th.txt",
+                text: b"tze? $( a $)\ntpl$.",
             },
         },
         Case {
             name: "a text holds a dollar sign",
             files: &[(b"first.mm", &[Text(FIRST)])],
-            reply: b"text X9 0\n",
+            reply: b"text X9 0
+th.txt:2:1: X9: a token with $ is no keyword
+  token: tpl$.
+",
+            status: 1,
+        },
+    ),
+    (
+        Lone {
+            label: b"th",
+            question: Try {
+                name: b"th.txt",
+                text: b"$= tze $. tpl $.",
+            },
+        },
+        Case {
+            name: "the end of a proof stands in the middle of a text",
+            files: &[(b"first.mm", &[Text(FIRST)])],
+            reply: b"text X9 0
+th.txt:1:8: X9: a token with $ is no keyword
+  token: $.
+",
+            status: 1,
+        },
+    ),
+    (
+        Lone {
+            label: b"th",
+            question: Try {
+                name: b"th.txt",
+                text: b"$( a $) $= $= tze",
+            },
+        },
+        Case {
+            name: "the beginning of a proof stands behind the first token",
+            files: &[(b"first.mm", &[Text(FIRST)])],
+            reply: b"text X9 0
+th.txt:1:12: X9: a token with $ is no keyword
+  token: $=
+",
             status: 1,
         },
     ),

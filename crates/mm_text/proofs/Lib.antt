@@ -5,3 +5,4 @@ pub mod PassedStatements
 pub mod Alike
 pub mod Replaced
 pub mod SaidBefore
+pub mod ShownTexts

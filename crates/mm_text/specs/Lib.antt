@@ -1,6 +1,7 @@
 pub mod Device
 pub mod Files
 pub mod Items
+pub mod Shown
 pub mod Reading
 pub mod Remarks
 pub mod RuleCodes

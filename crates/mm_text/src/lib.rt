@@ -1,7 +1,7 @@
 //! The reader: the files of a Metamath database, cut into tokens and statements.
 //! It answers `Statements::read`, one statement after the other, or the text's first fault, by rule
 //! and place; `pass_all`, which hands all of them over; and what comments say of a statement, and
-//! the bytes of files without their comments.
+//! the bytes of files without their comments; and `shown_tokens`, of one text alone.
 //! It stands on `mm_base` alone; of the crates of proofs none stands on it. Begin with
 //! `statements`, and with `specs/Reading.antt`, which says what is read.
 #![tactic(auto)]
@@ -23,10 +23,12 @@ mod passing;
 mod remarks;
 mod scan;
 mod scope;
+mod shown;
 mod sought;
 mod statements;
 mod stripped;
 
+pub use comments::Wrong;
 pub use counted::{Counted, Source, WriteFault};
 pub use fault::{LoadRule, TextFault, TextRule};
 pub use handed::BYTE_LIMIT;
@@ -39,4 +41,5 @@ pub use laws::{
 pub use load::{LoadFault, StrippedBytes, read_all, read_stripped};
 pub use passing::{Passing, pass_all, pass_first, pass_next};
 pub use remarks::{headings_between, mathbox_at, says_before};
+pub use shown::{ShownTokens, shown_tokens};
 pub use statements::Statements;

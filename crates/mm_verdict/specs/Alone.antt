@@ -1,21 +1,18 @@
 -- One theorem alone, over the statements before it, whatever their proofs: what stands at its
 -- label, what a text is as its proof, and what its own proof is (the Metamath book, sections 4.1.4,
 -- 4.2, 4.3 and 4.4.4, appendix B). That a theorem may be asked for alone is this project's own.
-use Rattle.std.specs.Prelude.{◌≡◌, ◌≢◌, ◌⊎◌, ℕ, ◌≤◌, List, [], ◌∷◌, ◌++◌, length, true}
-use Rattle.std.specs.Prelude.{false, Option, Some, None}
+use Rattle.std.specs.Prelude.{◌≡◌, ◌≢◌, ◌⊎◌, ℕ, ◌≤◌, List, [], ◌∷◌, ◌++◌, length}
+use Rattle.std.specs.Prelude.{Option, Some, None}
 use Rattle.mm_base.specs.declared.statement.Kind.TheVariants.{Provable}
 use Rattle.mm_text.specs.Files.{PlainFile}
 use Rattle.mm_base.specs.MostBytes.{most_bytes}
 use Rattle.mm_text.specs.Reading.{PlainFault, Reads}
 use Rattle.mm_base.specs.Statement.{PlainStatement}
-use Rattle.mm_code.specs.Words.{tokens_in}
 use Rattle.mm_frame.specs.Rules.{AllMeant}
 use Rattle.mm_frame.specs.Sentence.{SomeSentence, sentence_of, IsLabelled}
 use Rattle.mm_rules.specs.declared.rule.AskRule.{AskRule}
-use Rattle.mm_rules.specs.declared.rule.AskRule.TheVariants.{A1, A2, A3}
-use Rattle.mm_rules.specs.declared.rule.Rule.{Rule}
-use Rattle.mm_rules.specs.declared.rule.Rule.TheVariants as rules
-use Rattle.mm_rules.specs.Compared.{are_printable, hold_dollar, BreaksText}
+use Rattle.mm_rules.specs.declared.rule.AskRule.TheVariants.{A1, A2}
+use Rattle.mm_rules.specs.ProofText.{broken_in}
 use Rattle.mm_verdict.specs.Faults.{IsMeaningRefusal}
 use Rattle.mm_rules.specs.Verdict.{CanBeRead, PlainRefusal, sentences, text_refusal}
 
@@ -74,10 +71,4 @@ IsTheoremAt files label before s = IsReadTo files label before s × (s.kind ≡ 
 -- The text may be taken, and its tokens may stand in a proof, with unknown steps or without.
 pub record HasProofTokens (text : List ℕ) : Type 0 where
   pub taken : length text ≤ most_bytes
-  pub printable : are_printable (tokens_in text) ≡ true
-  pub plain : hold_dollar (tokens_in text) ≡ false
-
--- the first of the rules of a text that it breaks, where its steps may be unknown
-abbrev pub BreaksTokens : Rule → (text : List ℕ) → Type 0
-BreaksTokens (rules.Ask A3) text = ⊥
-BreaksTokens rule text = BreaksText rule text
+  pub faultless : broken_in text ≡ None

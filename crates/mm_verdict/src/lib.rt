@@ -4,6 +4,7 @@
 //! then `checked`; the proof that there is one verdict is in `proofs/Verdicts/OneVerdict.antt`.
 #![tactic(auto)]
 
+mod bare;
 mod checked;
 mod faults;
 mod form;
@@ -17,6 +18,7 @@ mod theorems;
 mod verdict;
 mod watch;
 
+pub use bare::proof_tokens;
 pub use checked::Checked;
 pub use faults::{AllFaults, all_faults};
 pub use form::Form;
@@ -28,7 +30,7 @@ pub use reply::{
 };
 pub use reread::has_label;
 pub use taking::{take, take_next};
-pub use text::{handed_tokens, is_space, proof_tokens, tokens_of};
+pub use text::{HandedTokens, Unhanded, handed_tokens, is_space, tokens_of};
 pub use theorem::{Theorem, read_theorem};
 pub use theorems::Rereading;
 pub use verdict::{beginning, check, check_with, conclude, judge_files, load, make_room, next};

@@ -34,6 +34,9 @@ fn mends_a_slip(rt: HostRuntime) -> Result<(), Fail> {
     let lost = b"$c a $. one $a a $. th $p a $= ( one )  $.";
     let put = b"put f.mm:1:40 A\n";
     assert!(rt; tells(alloc, lost, put, Status::Done, b"")?);
+    let beside = b"$c a $. one $a a $. th $p a $= $( a ) $) ( one ) Z $( A $) $.";
+    let letter = b"replaced f.mm:1:50 Z A\nput f.mm:1:50 A\n";
+    assert!(rt; tells(alloc, beside, letter, Status::Done, b"")?);
     let mistyped = b"$c a $. one $a a $. th $p a $= oen $.";
     assert!(rt;
         tells(

@@ -1,5 +1,5 @@
 -- The line tells the fault, and what follows explains it: its place, and the facts.
-use Rattle.std.proofs.Common.{ℕ, List, [], length, map}
+use Rattle.std.proofs.Common.{ℕ, List, [], map}
 use Rattle.std.proofs.Common.{◌∷◌, ◌++◌, None, ap, subst, take, ◌∙◌}
 use Rattle.mm_base.specs.Token.{PlainToken, plain_token}
 use Rattle.mm_text.specs.Files.{PlainFile, plain_file}
@@ -11,6 +11,7 @@ use Rattle.mm_facts.specs.Explained.{AreDetails, IsTokensFault, details_text}
 use Rattle.mm_facts.specs.Why.{IsPlaceAmong}
 use Rattle.mm_facts.specs.Mirror.Explaining.{IsCauseOf}
 use Rattle.mm_rules.proofs.Judgements.JudgedProofs.{texts_of}
+use Rattle.mm_rules.specs.ProofText.{proof_end}
 use Rattle.mm_explain.specs.Why.{head_at}
 use Rattle.mm_explain.proofs.trial.fault_reply.Goals as goal
 
@@ -55,10 +56,14 @@ returns c = λ index s number.
       at = c.place_among-at.result;
       place = subst
           (λ (tokens : List PlainToken). IsPlaceAmong Lenient (take index st) s tokens
-          (length proof.bytes) rule step c.place_among-at.result)
+          (proof_end proof.bytes) rule step c.place_among-at.result)
           c.requires.places
+          (subst
+          (λ (end : ℕ). IsPlaceAmong Lenient (take index st) s tokens end rule step
+          c.place_among-at.result)
+          c.requires.end
           (c.place_among-at.ensures Lenient st c.args.id.0 index s rule step number
-          c.in_ok-cause.ensures.cause);
+          c.in_ok-cause.ensures.cause));
       details = told.0;
       explained = subst
           (λ (ts : List PlainToken). AreDetails (proof ∷ []) Lenient (take index st) s ts rule step

@@ -30,6 +30,6 @@ returns-in-Err c =
     IfOk-weaker c.no_proof.result _ _
     (λ yes told index s number. (
       (λ is. absurd (false≢true (sym told.0 ∙ is))),
-      λ has. absurd (no_tokens c.args.text.now c.in-Err.fault c.in-Err.ensures.fault told.1 has.0),
+      λ has. absurd (no_tokens c.args.text.now c.in-Err.why c.in-Err.ensures.fault told.1 has.0),
     ))
     c.no_proof.ensures
