@@ -379,10 +379,14 @@ ends 0 '1 7:24 A nil e\n2 7:25 A nil e\n3 7:26 BZ cat e\n4 7:28 C @3 e\n5 7:29 B
 ends 0 '1 7:25 - tze term 0\n2 7:29 - tze term 0\n3 7:33 - tpl term ( 0 + 0 )\n' '' \
     show --letters th first.mm
 ends 1 'ask A2 tt\n' '' show --letters tt first.mm
-for flags in '--known --uses' '--known --essential' '--essential --uses' '--letters --uses'; do
-    ends 2 '' "mm: --essential and --uses stand alone
-Usage: mm show [--known] [--letters] LABEL FILES..
-       mm show [--essential | --uses] LABEL FILES..\n" show $flags th first.mm
+ends 0 '1 - nil e\n2 - nil e\n3 1,2 cat e\n4 - @3 e\n5 3,3 cat e\n' '' show --known --uses th steps.mm
+ends 0 '5 - cat e\n' '' show --essential th steps.mm --known
+sed 's/AABZCB/AABA?/' steps.mm >left.mm
+ends 3 '3 - cat e\n4 - nil e\n  step 3, cat at 7:26, gives\n    e\n  step 4, nil at 7:27, gives\n    e\n  th states\n    e\n' '' \
+    show --known --essential th left.mm
+for flags in '--essential --uses' '--letters --uses' '--known --letters --essential'; do
+    ends 2 '' "mm: --letters, --essential and --uses exclude each other
+Usage: mm show [--known] [--letters | --essential | --uses] LABEL FILES..\n" show $flags th first.mm
 done
 ends 0 '      ( nil cat )\n      AABZCB\n' '' packed th shared.mm
 ends 3 'incomplete 2\nu1\nu2\n' '' check unfinished.mm

@@ -28,7 +28,7 @@ ghost use Rattle.mm_step.specs.Plain.{token_texts};
 use crate::databases::{HEAD, LIMIT};
 use mm_base::{File, Kind, Seed, Statement, Token};
 use mm_frame::{Book, Found, LabelId, Piece, ShortPiece, Sym, Taken};
-use mm_listing::{Line, Name, UsedSteps, listing, partial_listing, uses_of};
+use mm_listing::{Line, Name, UsedSteps, listing, uses_of};
 use mm_proof::{Parsed, Steps, verify};
 use mm_proof_laws::{
     by_spelling, by_word, fewest_steps, limits_aside, made_by_word, one_fit, one_packed,
@@ -445,54 +445,6 @@ fn lists_shared_steps(alloc: Global, bytes: &[u8]) -> Result<bool, Fail> {
     answer
 }
 
-/// The steps of the proof, with the expressions of those that are told.
-fn partial_listing_of(alloc: Global, theorem: &Theorem, told: &[bool]) -> Result<Vec<Line>, Fail>
-    requires proof { (index : ℕ) × (s : Sentence)
-        × IsProofNumber theorem.now.book.statements theorem.now.id.0 index s }
-    requires room { sum_by length (token_texts theorem.now.tokens.items) ≤ most_bytes }
-{
-    match Steps::parse(
-        alloc,
-        Profile::Lenient,
-        &theorem.book,
-        theorem.id,
-        &theorem.tokens,
-    )? {
-        Parsed::Steps(steps) => Ok(partial_listing(
-            alloc,
-            &theorem.book,
-            theorem.id,
-            &steps,
-            told,
-        )?),
-        Parsed::Incomplete(_) => Err(Fail::from("incomplete")),
-    }
-}
-
-/// Whether the lines of these steps have expressions, and the others none.
-fn have_expressions(lines: &[Line], told: &[bool]) -> bool {
-    for (line, is_told) in lines.iter().zip(told.iter()) {
-        if line.expression.is_empty() == *is_told {
-            return false;
-        }
-    }
-    lines.len() == told.len()
-}
-
-/// Whether of the steps of the first `$p` of a database those have expressions that are told.
-fn lists_told_steps(alloc: Global, bytes: &[u8], told: &[bool]) -> Result<bool, Fail> {
-    let files = [File {
-        name: b"cat.mm",
-        bytes,
-    }];
-    let theorem = first_theorem(alloc, &files)?;
-    let lines = partial_listing_of(alloc, &theorem, told)?;
-    let answer = have_expressions(&lines, told);
-    drop(lines);
-    drop(theorem);
-    Ok(answer)
-}
-
 /// The steps of the proof, with what each of them uses.
 fn uses_in(alloc: Global, theorem: &Theorem) -> Result<UsedSteps, Fail>
     requires proof { (index : ℕ) × (s : Sentence)
@@ -526,7 +478,8 @@ fn links_steps(alloc: Global, theorem: &Theorem) -> Result<bool, Fail>
         None => false,
     };
     let all = reached.as_slice() == [true, true, true, false, true].as_slice();
-    let answer = twice && all && used.root == 5 && used.lines.len() == 5;
+    let one = used.roots.as_slice() == [5].as_slice();
+    let answer = twice && all && one && used.lines.len() == 5;
     drop(reached);
     drop(used);
     Ok(answer)
@@ -553,13 +506,6 @@ fn steps_are_linked(rt: HostRuntime) -> Result<(), Fail> {
 #[test]
 fn steps_are_listed(rt: HostRuntime) -> Result<(), Fail> {
     assert!(rt; lists_shared_steps(rt.alloc(), SHARED)?);
-    Ok(())
-}
-
-#[test]
-fn told_steps_are_listed(rt: HostRuntime) -> Result<(), Fail> {
-    let told = [true, false, false, true, false];
-    assert!(rt; lists_told_steps(rt.alloc(), SHARED, &told)?);
     Ok(())
 }
 

@@ -214,8 +214,7 @@ Examples:
   mm find '( ps -> ps )' --shape set.mm
 ";
 
-const SHOW: &str = "Usage: mm show [--known] [--letters] LABEL FILES..
-       mm show [--essential | --uses] LABEL FILES..
+const SHOW: &str = "Usage: mm show [--known] [--letters | --essential | --uses] LABEL FILES..
 
 Checks the database, and lists the steps of the proof of the theorem with this
 label.
@@ -227,7 +226,8 @@ Options:
   --letters     each step, with its place and its letters
   --uses        each step, with the steps that gave it its hypotheses
   --essential   the steps that the last one is reached from through `$e`
-                hypotheses, each with the steps that gave it these
+                hypotheses, each with the steps that gave it these; with
+                --known, that anything on the stack is reached from
 
 Replies:
   STEP NAME EXPRESSION, one on each line                            status 0
@@ -253,6 +253,7 @@ Replies:
 Examples:
   mm show id set.mm
   mm show --known --letters id set.mm
+  mm show --known --uses id set.mm
   mm show --essential id set.mm
 ";
 

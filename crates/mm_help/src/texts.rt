@@ -56,15 +56,13 @@ Commands:
                          --and this one too, with --whole as a whole expression, with --shape
                          with other variables of the same types, with --hypotheses also in
                          hypotheses
-  show [--known] [--letters] LABEL FILES..
+  show [--known] [--letters | --essential | --uses] LABEL FILES..
                          checks the database, and lists the steps of the proof of the theorem with
                          this label; with --known the steps that pass, of an unfinished proof or of
                          one at fault, and what is on the stack there; with --letters where each
-                         step stands, and its letters
-  show [--essential | --uses] LABEL FILES..
-                         with --uses which steps gave each step its hypotheses; with --essential
-                         those steps alone that the last one is reached from through `$e`
-                         hypotheses
+                         step stands, and its letters; with --uses which steps gave each step its
+                         hypotheses; with --essential those steps alone that the last one, or with
+                         --known what is on the stack, is reached from through `$e` hypotheses
   normal [--file] LABEL FILES..
                          checks the database, and writes the normal proof of the theorem with this
                          label; with --file the whole file in which the theorem stands, with that

@@ -3,8 +3,8 @@
 -- some without their expressions. `StackOrigins`: the tracker,
 -- which knows what step made each entry of the stack; `ProofHalts`: where moves stop; `StepOperands`
 -- and `StepSources`: which steps gave a step its hypotheses, and what a tag stands for; `StepUses`:
--- the linker, which knows what each step uses; `ReachedSteps`: which steps are reached from the
--- last one. Clauses of `listing`, `halt_of` and `uses_of` rest on it.
+-- the linker, which knows what each step uses, and its roots; `ReachedSteps`: which steps are reached
+-- from these. Clauses of `listing`, `halt_of` and `uses_of` rest on it.
 pub mod NextMoves
 pub mod ToldLines
 pub mod ListedEnd

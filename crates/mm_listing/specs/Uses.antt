@@ -1,8 +1,8 @@
 -- What each step of a proof uses: the steps that gave it its hypotheses; and the steps that are
--- reached from the last one (the Metamath book, sections 4.1.4, 4.3 and 4.4.3, appendix B). How it
--- is told is this project's own.
+-- reached from those that made what is left, which in a whole proof is the last one (the Metamath
+-- book, sections 4.1.4, 4.3 and 4.4.3, appendix B). How it is told is this project's own.
 use Rattle.std.specs.Prelude.{◌≡◌, ℕ, ◌+◌, ◌-◌, ◌<◌, List, [], ◌++◌, length, map, take, slice_get}
-use Rattle.std.specs.Prelude.{Some}
+use Rattle.std.specs.Prelude.{Some, not}
 use Rattle.std.specs.Prelude.{slice_index_or, Vec, Bool, true, false, IsTrue, Contains, ◌⊎◌, ◌↔◌}
 use Rattle.std.specs.List.{AllZip}
 use Rattle.mm_base.specs.declared.statement.Kind.TheVariants.{Essential}
@@ -13,7 +13,8 @@ use Rattle.mm_step.specs.Substitution.{Expression}
 use Rattle.mm_step.specs.Tree.{AnyExpression, Names}
 use Rattle.mm_step.specs.Moves.{Move, name, again, mark, is_step, steps_in}
 use Rattle.mm_step.specs.Proof.{Passed}
-use Rattle.mm_listing.specs.Listing.{StandsAfter}
+use Rattle.mm_listing.specs.declared.lines.Line.{Line}
+use Rattle.mm_listing.specs.Listing.{StandsAfter, AreLinesWith}
 use Rattle.mm_listing.specs.Halted.{AreOrigins}
 
 -- Something is told of each step of the moves, in order: of the step by a move after others it is
@@ -43,21 +44,26 @@ AreSources moves sources = AreOfSteps (StandsFor sources) moves sources
 
 -- ---- what a step uses
 
--- The steps with these numbers, all by labels, give the hypotheses to a step after the moves: those
--- left a stack, whose last entries, one for each hypothesis, were made by steps that stand for
--- them.
-pub record Give (before : List Sentence) (moves : List (Move (List ℕ))) (hypotheses : List Sentence)
-    (operands : List ℕ) : Type 0 where
+-- The roots of the moves, all steps by labels: the moves left a stack, whose entries, the lowest
+-- first, were made by steps that stand for them.
+pub record AreRoots (before : List Sentence) (moves : List (Move (List ℕ)))
+    (roots : List ℕ) : Type 0 where
   pub stack : List Expression
   pub kept : List Expression
   pub passed : Passed AnyExpression before moves stack kept
-  pub others : List ℕ
   pub origins : List ℕ
-  pub made : AreOrigins AnyExpression before moves stack (others ++ origins)
-  pub paired : length origins ≡ length hypotheses
+  pub made : AreOrigins AnyExpression before moves stack origins
   pub sources : List ℕ
   pub resolved : AreSources moves sources
-  pub given : AllZip (λ origin operand. slice_get sources (origin - 1) ≡ Some operand) origins operands
+  pub given : AllZip (λ origin root. slice_get sources (origin - 1) ≡ Some root) origins roots
+
+-- the steps with these numbers give the hypotheses to a step after the moves: they are the last of
+-- the roots, one for each hypothesis
+abbrev pub Give : List Sentence → List (Move (List ℕ)) → (hypotheses : List Sentence)
+    → (operands : List ℕ) → Type 0
+Give before moves hypotheses operands =
+    (others : List ℕ) × AreRoots before moves (others ++ operands)
+    × (length operands ≡ length hypotheses)
 
 -- It is asked who gives the hypothesis at an index: of any, or of each `$e` alone.
 abbrev pub IsAsked : (essential : Bool) → (hypotheses : List Sentence) → (index : ℕ) → Type 0
@@ -87,13 +93,15 @@ AreUses essential before moves rows = AreOfSteps (IsUsing essential before) move
 abbrev pub rows_of : {Z : Type 0} → List (Vec ℕ Z) → List (List ℕ)
 rows_of lists = map (λ list. list.items) lists
 
--- ---- what is reached from the last step
+-- The steps of the moves have these lines, without expressions where it is asked for `$e` alone, and
+-- these uses; and these are the roots.
+abbrev pub AreLinked : (essential : Bool) → List Sentence → (before : List Sentence)
+    → List (Move (List ℕ)) → List Line → (rows : List (List ℕ)) → (roots : List ℕ) → Type 0
+AreLinked essential statements before moves lines rows roots =
+    AreLinesWith statements before moves (λ step. not essential) lines
+    × AreUses essential before moves rows × AreRoots before moves roots
 
--- the root: the step by a label that the last step of the moves stands for
-abbrev pub IsRoot : {X : Type 0} → List (Move X) → (root : ℕ) → Type 0
-IsRoot moves root =
-    (sources : List ℕ) × AreSources moves sources
-    × (slice_get sources (steps_in moves - 1) ≡ Some root)
+-- ---- what is reached from the roots
 
 -- the step at an index, from 0 on, is reached
 abbrev pub IsReached : (reached : List Bool) → (index : ℕ) → Type 0
@@ -105,9 +113,9 @@ IsUsedByReached rows reached index =
     (user : ℕ) × (used : List ℕ) × IsReached reached user × (slice_get rows user ≡ Some used)
     × Contains used (index + 1)
 
--- Of the steps with these uses those are reached that are the root or are used by one that is
--- reached. A step uses earlier ones alone, so there is one such list.
-pub record AreReached (root : ℕ) (rows : List (List ℕ)) (reached : List Bool) : Type 0 where
+-- Of the steps with these uses those are reached that are roots or are used by one that is reached. A
+-- step uses earlier ones alone, so there is one such list.
+pub record AreReached (roots : List ℕ) (rows : List (List ℕ)) (reached : List Bool) : Type 0 where
   pub count : length reached ≡ length rows
   pub each : (index : ℕ) → index < length reached
-      → IsReached reached index ↔ ((index + 1 ≡ root) ⊎ IsUsedByReached rows reached index)
+      → IsReached reached index ↔ (Contains roots (index + 1) ⊎ IsUsedByReached rows reached index)

@@ -361,52 +361,6 @@ pub fn listing(
     lines_of_steps(alloc, book, id, steps, expressed)
 }
 
-/// The same listing, in which the expressions of those steps are left out whose flags aren't set, by
-/// the order of the steps: so it takes memory for what is told.
-///
-/// # Errors
-///
-/// As for `listing`.
-pub fn partial_listing(
-    alloc: Global,
-    book: &Book,
-    id: LabelId,
-    steps: &Steps,
-    told: &[bool],
-) -> Result<Vec<Line>, ProofFault>
-    requires steps { AreSteps book.now.statements id.0 steps.now.moves }
-    requires whole { steps.now.prefix ≡ false }
-    // The lines are those of the steps: each with its name, and where the step is told with the
-    // expression that its tree derives, and with none where it isn't.
-    ensures listed { IfOk result (λ lines. OfMoves book.now.statements id.0 steps.now.moves
-        (λ index s moves. AreLinesWith book.now.statements (take index book.now.statements) moves
-        (λ index. slice_index_or told.now index false) lines.items)) }
-
-    // The rule and the step are those of the first fault.
-    ensures fault { (rule : ProofRule) → (step : ℕ) → result ≡ Err (ProofFault.Rule rule step)
-        → OfMoves book.now.statements id.0 steps.now.moves
-        (λ index s moves. IsMovesFault (IsWithin (limit_of steps.now.profile))
-        (take index book.now.statements) s moves rule step) }
-
-    // What is proved is listed, unless memory is refused.
-    ensures accepts { OfMoves book.now.statements id.0 steps.now.moves
-        (λ index s moves.
-        Prove (IsWithin (limit_of steps.now.profile)) (take index book.now.statements) s moves
-        → IsOkUnless result ProofFault.Memory) }
-
-    // What has a fault is answered with it, unless memory is refused.
-    ensures refuses { OfMoves book.now.statements id.0 steps.now.moves
-        (λ index s moves. (rule : ProofRule) → (step : ℕ) → IsMovesFault
-        (IsWithin (limit_of steps.now.profile)) (take index book.now.statements) s moves rule step
-        → IsUnlessMemory result (Err (ProofFault.Rule rule step))) }
-{
-    let expressed = Expressed {
-        all: false,
-        flags: told,
-    };
-    lines_of_steps(alloc, book, id, steps, expressed)
-}
-
 // The lines of the steps among so many first moves, which pass, those with their expressions that
 // are listed so.
 fn lines_of_front(
@@ -498,6 +452,45 @@ pub fn lines_before(
     let expressed = Expressed {
         all: true,
         flags: &[],
+    };
+    lines_of_first_codes(
+        alloc,
+        book,
+        id,
+        &steps.entries,
+        &steps.codes,
+        steps.profile,
+        (passed, expressed),
+    )
+}
+
+/// The same lines, in which the expressions of those steps are left out whose flags aren't set, by
+/// the order of the steps: so it takes memory for what is told.
+///
+/// # Errors
+///
+/// Where a growth was refused.
+pub fn partial_lines_before(
+    alloc: Global,
+    book: &Book,
+    id: LabelId,
+    steps: &Steps,
+    passed: usize,
+    told: &[bool],
+) -> Result<Vec<Line>, AllocError>
+    requires steps { AreSteps book.now.statements id.0 steps.now.moves }
+    requires within { passed ≤ length steps.now.moves }
+    requires pass { OfMoves book.now.statements id.0 steps.now.moves
+        (λ index s moves. Pass (IsWithin (limit_of steps.now.profile))
+        (take index book.now.statements) (take passed moves)) }
+    // Where a step is told it has the expression that its tree derives, and none where it isn't.
+    ensures listed { IfOk result (λ lines. OfMoves book.now.statements id.0 steps.now.moves
+        (λ index s moves. AreLinesWith book.now.statements (take index book.now.statements)
+        (take passed moves) (λ index. slice_index_or told.now index false) lines.items)) }
+{
+    let expressed = Expressed {
+        all: false,
+        flags: told,
     };
     lines_of_first_codes(
         alloc,

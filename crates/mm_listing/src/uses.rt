@@ -1,4 +1,4 @@
-//! What each step of a proof uses, and which steps are reached from the last one.
+//! What each step of a proof uses, and which steps are reached from those that made what is left.
 
 ghost use Rattle.std.specs.Prelude.{◌≡◌, ◌-◌, ◌<◌, ◌≤◌, ◌↔◌, ◌^◌, ℕ, List, [], All, length};
 ghost use Rattle.std.specs.Prelude.{take, drop};
@@ -17,9 +17,9 @@ ghost use Rattle.mm_proof.specs.Proof.{Prove, IsMovesFault};
 ghost use Rattle.mm_step.specs.Proof.{IsWithin};
 ghost use Rattle.mm_step.specs.Profiles.{limit_of};
 ghost use Rattle.mm_step.specs.Steps.{AreNumberedMoves, AreSteps};
-ghost use Rattle.mm_listing.specs.Listing.{AreLinesWith};
 ghost use Rattle.mm_proof.specs.Verified.{OfMoves};
-ghost use Rattle.mm_listing.specs.Uses.{AreUses, IsRoot, AreReached, rows_of};
+ghost use Rattle.mm_proof.specs.CheckedPrefix.{Pass};
+ghost use Rattle.mm_listing.specs.Uses.{AreLinked, AreReached, rows_of};
 ghost use Rattle.mm_proof.specs.Mirror.CodeSteps.{code_moves, moves_of};
 ghost use Rattle.mm_step.specs.Mirror.CodeRun.{MayBeMade, HasRun};
 ghost use Rattle.mm_listing.specs.Mirror.CodeLines.{AreLinesAt, BreaksAt, FaultsProof, expresses};
@@ -47,12 +47,13 @@ pub struct UsedSteps {
     /// For each step, the numbers, from 1 on, of the steps that gave it its hypotheses, all by
     /// labels.
     pub uses: Vec<Vec<usize>>,
-    /// The number of the step by a label that the last step is, or repeats.
-    pub root: usize,
+    /// For each entry that is left on the stack, the lowest first, the number of the step by a label
+    /// that made it, or that the step by a tag repeats which did. Of a whole proof there is one.
+    pub roots: Vec<usize>,
     /// Each step uses earlier ones.
     ghost earlier: { AreEarlier (rows_of uses.items) },
-    /// The root is a step.
-    ghost rooted: { IsAmong (length uses.items) root },
+    /// The roots are steps.
+    ghost rooted: { All (IsAmong (length uses.items)) roots.items },
 }
 
 // Whether it is asked who gives the hypothesis at an index of what a label stands for.
@@ -283,23 +284,34 @@ fn link_codes<S: Store>(
     })
 }
 
-// The steps with what each uses; there is one.
-fn used_steps(links: Links) -> UsedSteps
-    requires some { 0 < length links.sources.items }
+// What the steps with these numbers stand for.
+fn sources_at(alloc: Global, origins: &[usize], sources: &[usize]) -> Result<Vec<usize>, AllocError>
+    requires { All (IsAmong (length sources.now)) origins.now }
+    ensures { IfOk result (λ found. found.items ≡ sources_of sources.now origins.now) }
+{
+    let mut found = Vec::new(alloc);
+    for origin in origins {
+        found.push(sources[*origin - 1])?;
+    }
+    Ok(found)
+}
+
+// The steps with what each uses, and the roots.
+fn used_steps(alloc: Global, links: Links) -> Result<UsedSteps, AllocError>
+    requires among { All (IsAmong (length links.sources.items)) links.origins.items }
     requires long { length (rows_of links.uses.items) ≡ length links.sources.items }
     requires no_later { AreNoLater links.sources.items }
     requires earlier { AreEarlier (rows_of links.uses.items) }
-    ensures lines { result.lines.items ≡ links.lines.items }
-    ensures uses { result.uses.items ≡ links.uses.items }
-    ensures root { slice_get links.sources.items (length links.sources.items - 1)
-        ≡ Some result.root }
+    ensures { IfOk result (λ used. (used.lines.items ≡ links.lines.items)
+        × (used.uses.items ≡ links.uses.items)
+        × (used.roots.items ≡ sources_of links.sources.items links.origins.items)) }
 {
-    let root = links.sources[links.sources.len() - 1];
-    UsedSteps {
+    let roots = sources_at(alloc, &links.origins, &links.sources)?;
+    Ok(UsedSteps {
         lines: links.lines,
         uses: links.uses,
-        root,
-    }
+        roots,
+    })
 }
 
 // The steps of the moves, or their first fault.
@@ -318,7 +330,8 @@ fn links_in_frame<S: Store>(
         AreSteps site.statements site.number (code_moves table.now.ids codes.now) }
     ensures linked { let site = table.now.site in
         IfOk result (λ used. LinksProof site.limit essential site.statements site.number
-        (code_moves table.now.ids codes.now) used.lines.items (rows_of used.uses.items) used.root) }
+        (code_moves table.now.ids codes.now) used.lines.items (rows_of used.uses.items)
+        used.roots.items) }
     ensures fault { let site = table.now.site in
         IfErr result (FaultsProof site.limit site.statements site.number
         (code_moves table.now.ids codes.now)) }
@@ -331,7 +344,7 @@ fn links_in_frame<S: Store>(
     };
     let links = link_codes(alloc, store, table, codes, essential, expressed)?;
     ending(store, expression, links.lines.len() + 1)?;
-    Ok(used_steps(links))
+    Ok(used_steps(alloc, links)?)
 }
 
 // The steps of the moves, or their first fault.
@@ -349,7 +362,7 @@ fn links_of_proof(
     requires steps { AreSteps book.now.statements id.0 (moves_of entries.now codes.now) }
     ensures linked { IfOk result (λ used. LinksProof (limit_of profile) essential
         book.now.statements id.0 (moves_of entries.now codes.now) used.lines.items
-        (rows_of used.uses.items) used.root) }
+        (rows_of used.uses.items) used.roots.items) }
     ensures fault { IfErr result (FaultsProof (limit_of profile) book.now.statements id.0
         (moves_of entries.now codes.now)) }
     ensures sound { IsSound book.now.statements }
@@ -367,9 +380,9 @@ fn links_of_proof(
 
 /// The steps of the `$p` with this number, which these moves prove, as `listing` tells them; and
 /// for each the steps that gave it its mandatory hypotheses, in their order. If `essential`, its
-/// `$e` alone, and the lines are without their expressions, which `partial_listing` tells of those
-/// steps that are wanted. Where a step by a tag put an entry there, it is the step by a label that
-/// the tag repeats. A step by a tag has none.
+/// `$e` alone, and the lines are without their expressions, which `partial_lines_before` tells of
+/// those steps that are wanted. Where a step by a tag put an entry there, it is the step by a label
+/// that the tag repeats. A step by a tag has none.
 ///
 /// # Errors
 ///
@@ -385,10 +398,8 @@ pub fn uses_of(
     requires whole { steps.now.prefix ≡ false }
     // The lines are those of the steps, and the rows what each of them uses.
     ensures used { IfOk result (λ used. OfMoves book.now.statements id.0 steps.now.moves
-        (λ index s moves. AreLinesWith book.now.statements (take index book.now.statements) moves
-        (λ step. not essential) used.lines.items
-        × AreUses essential (take index book.now.statements) moves (rows_of used.uses.items)
-        × IsRoot moves used.root)) }
+        (λ index s moves. AreLinked essential book.now.statements (take index book.now.statements)
+        moves used.lines.items (rows_of used.uses.items) used.roots.items)) }
 
     // The rule and the step are those of the first fault.
     ensures fault { (rule : ProofRule) → (step : ℕ) → result ≡ Err (ProofFault.Rule rule step)
@@ -419,6 +430,115 @@ pub fn uses_of(
     )
 }
 
+// The steps among so many first moves, which pass.
+fn links_of_front(
+    alloc: Global,
+    table: &CallTable,
+    codes: &[Code],
+    passed: usize,
+    essential: bool,
+) -> Result<UsedSteps, AllocError>
+    requires site { IsSite table.now.site }
+    requires spelled { All HasSpelling codes.now }
+    requires room { length codes.now < 2 ^ 32 }
+    requires within { passed ≤ length codes.now }
+    requires steps { let site = table.now.site in
+        AreSteps site.statements site.number (code_moves table.now.ids codes.now) }
+    requires pass { let site = table.now.site in
+        OfMoves site.statements site.number (code_moves table.now.ids codes.now)
+        (λ index s moves.
+        Pass (IsWithin site.limit) (take index site.statements) (take passed moves)) }
+    ensures { let site = table.now.site in IfOk result (λ used.
+        OfMoves site.statements site.number (code_moves table.now.ids codes.now)
+        (λ index s moves. AreLinked essential site.statements (take index site.statements)
+        (take passed moves) used.lines.items (rows_of used.uses.items) used.roots.items)) }
+{
+    let mut store = Flat::new(alloc);
+    let expressed = Expressed {
+        all: !essential,
+        flags: &[],
+    };
+    match link_codes(
+        alloc,
+        &mut store,
+        table,
+        &codes[..passed],
+        essential,
+        expressed,
+    ) {
+        Ok(links) => used_steps(alloc, links),
+        Err(ProofFault::Memory) => Err(AllocError),
+        // These moves pass.
+        Err(ProofFault::Rule { .. }) => unreachable!(),
+    }
+}
+
+// The steps among so many first moves that the codes say.
+fn links_of_first_codes(
+    alloc: Global,
+    book: &Book,
+    id: LabelId,
+    entries: &[LabelId],
+    codes: &[Code],
+    profile: Profile,
+    front: (usize, bool),
+) -> Result<UsedSteps, AllocError>
+    requires spelled { All HasSpelling codes.now }
+    requires room { length codes.now < 2 ^ 32 }
+    requires within { front.0 ≤ length codes.now }
+    requires steps { AreSteps book.now.statements id.0 (moves_of entries.now codes.now) }
+    requires pass { OfMoves book.now.statements id.0 (moves_of entries.now codes.now)
+        (λ index s moves. Pass (IsWithin (limit_of profile)) (take index book.now.statements)
+        (take front.0 moves)) }
+    ensures { IfOk result (λ used.
+        OfMoves book.now.statements id.0 (moves_of entries.now codes.now)
+        (λ index s moves. AreLinked front.1 book.now.statements (take index book.now.statements)
+        (take front.0 moves) used.lines.items (rows_of used.uses.items) used.roots.items)) }
+{
+    let site = Site::new(book, id, profile);
+    let calls = calls_of(alloc, book, entries)?;
+    let table = CallTable {
+        site,
+        entries,
+        calls: &calls,
+    };
+    links_of_front(alloc, &table, codes, front.0, front.1)
+}
+
+/// The steps among so many first moves of the `$p` with this number, which pass, as `uses_of` tells
+/// them.
+///
+/// # Errors
+///
+/// Where a growth was refused.
+pub fn uses_before(
+    alloc: Global,
+    book: &Book,
+    id: LabelId,
+    steps: &Steps,
+    passed: usize,
+    essential: bool,
+) -> Result<UsedSteps, AllocError>
+    requires steps { AreSteps book.now.statements id.0 steps.now.moves }
+    requires within { passed ≤ length steps.now.moves }
+    requires pass { OfMoves book.now.statements id.0 steps.now.moves
+        (λ index s moves. Pass (IsWithin (limit_of steps.now.profile))
+        (take index book.now.statements) (take passed moves)) }
+    ensures used { IfOk result (λ used. OfMoves book.now.statements id.0 steps.now.moves
+        (λ index s moves. AreLinked essential book.now.statements (take index book.now.statements)
+        (take passed moves) used.lines.items (rows_of used.uses.items) used.roots.items)) }
+{
+    links_of_first_codes(
+        alloc,
+        book,
+        id,
+        &steps.entries,
+        &steps.codes,
+        steps.profile,
+        (passed, essential),
+    )
+}
+
 // Notes that the steps with these numbers are reached.
 fn reach(reached: &mut Vec<bool>, used: &[usize])
     requires { All (IsAmong (length reached.old.items)) used.now }
@@ -430,18 +550,18 @@ fn reach(reached: &mut Vec<bool>, used: &[usize])
 }
 
 impl UsedSteps {
-    /// For each step, whether it is reached: the root is, and what a step that is reached uses.
+    /// For each step, whether it is reached: the roots are, and what a step that is reached uses.
     ///
     /// # Errors
     ///
     /// Where a growth was refused.
     pub fn reached(&self, alloc: Global) -> Result<Vec<bool>, AllocError>
         ensures { IfOk result (λ reached.
-            AreReached self.now.root (rows_of self.now.uses.items) reached.items) }
+            AreReached self.now.roots.items (rows_of self.now.uses.items) reached.items) }
     {
         let mut reached = Vec::new(alloc);
         unmark(&mut reached, self.uses.len())?;
-        reached[self.root - 1] = true;
+        reach(&mut reached, &self.roots);
         for index in (0..self.uses.len()).rev() {
             if reached[index] {
                 reach(&mut reached, &self.uses[index]);

@@ -8,7 +8,7 @@ use Rattle.mm_frame.specs.Sentence.{Sentence, sentence_of, IsLabelled}
 use Rattle.mm_step.specs.Moves.{Move}
 use Rattle.mm_proof.specs.Tokens.{SayMoves}
 use Rattle.mm_listing.specs.Listing.{ListedStep, AreListed}
-use Rattle.mm_listing.specs.Uses.{AreUses, IsRoot, AreReached}
+use Rattle.mm_listing.specs.Uses.{AreUses, AreRoots, AreReached}
 use Rattle.mm_rules.specs.Verdict.{proof_of, is_proof, sentences}
 use Rattle.mm_render.specs.Shown.{name_text}
 use Rattle.mm_rules.specs.Shown.{symbols_text}
@@ -37,27 +37,32 @@ used_steps_text number (step ∷ steps) (used ∷ rows) (is_told ∷ told) =
     told
 used_steps_text number steps rows told = []
 
--- these steps are told: all; or of the essential ones those that are reached from the root
-abbrev pub AreTold : (essential : Bool) → (root : ℕ) → (rows : List (List ℕ)) → (told : List Bool)
-    → Type 0
-AreTold false root rows told = told ≡ replicate (length rows) true
-AreTold true root rows told = AreReached root rows told
+-- these steps are told: all; or of the essential ones those that are reached from the roots
+abbrev pub AreTold : (essential : Bool) → (roots : List ℕ) → (rows : List (List ℕ))
+    → (told : List Bool) → Type 0
+AreTold false roots rows told = told ≡ replicate (length rows) true
+AreTold true roots rows told = AreReached roots rows told
 
--- the text tells what the steps of the moves use that the tokens say, as a proof of a `$p` after
--- the statements before it
-pub record IsUsesText (essential : Bool) (before : List Sentence) (s : Sentence)
-    (tokens : List (List ℕ)) (text : List ℕ) : Type 0 where
-  pub moves : List (Move (List ℕ))
-  pub said : SayMoves before s tokens moves
+-- the text tells what the steps of the moves use
+pub record TellsUses (essential : Bool) (before : List Sentence) (moves : List (Move (List ℕ)))
+    (text : List ℕ) : Type 0 where
   pub steps : List ListedStep
   pub listed : AreListed before moves steps
   pub rows : List (List ℕ)
   pub used : AreUses essential before moves rows
-  pub root : ℕ
-  pub rooted : IsRoot moves root
+  pub roots : List ℕ
+  pub rooted : AreRoots before moves roots
   pub told : List Bool
-  pub chosen : AreTold essential root rows told
+  pub chosen : AreTold essential roots rows told
   pub laid : text ≡ used_steps_text 1 steps rows told
+
+-- the text tells what the steps of the moves use that the tokens say, as a proof of a `$p` after
+-- the statements before it
+abbrev pub IsUsesText : (essential : Bool) → (before : List Sentence) → Sentence
+    → (tokens : List (List ℕ)) → (text : List ℕ) → Type 0
+IsUsesText essential before s tokens text =
+    (moves : List (Move (List ℕ))) × SayMoves before s tokens moves
+    × TellsUses essential before moves text
 
 -- the text is that of the proof of the theorem with the label, which is complete
 pub record ShowsUses (essential : Bool) (statements : List PlainStatement) (label : List ℕ)

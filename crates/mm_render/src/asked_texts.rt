@@ -103,7 +103,15 @@ pub fn uses_listing(
         → Reads checked.now.files statements None → IsAskFault statements label.now fault) }
 {
     let theorem = checked.read_theorem(alloc, label)?;
-    uses_text(alloc, &checked.book, &theorem, essential)
+    let steps = &theorem.steps;
+    Ok(uses_text(
+        alloc,
+        &checked.book,
+        theorem.id,
+        steps,
+        steps.codes.len(),
+        essential,
+    )?)
 }
 
 /// The normal proof of the `$p` with this label, laid out in lines: the labels that its proof's

@@ -25,3 +25,4 @@ pub use listing_lines::{lines_of, text_of};
 pub use rewrite::most_for;
 pub use save_fault::SaveFault;
 pub use shorter::{Handed, handed_proof};
+pub use uses_lines::uses_text;

@@ -1,22 +1,22 @@
 //! The lines of `mm show --uses`: the steps that each step of a proof uses.
 
-ghost use Rattle.std.specs.Prelude.{◌≡◌, ◌++◌, List, ℕ, take, length, replicate, true, false};
-ghost use Rattle.std.specs.Prelude.{OnOk, IfOk, IfErr, slice_index_or, not};
-ghost use Rattle.mm_listing.specs.Listing.{ListedStep, TellsStep, TellSteps, AreLinesWith};
-ghost use Rattle.mm_listing.specs.Uses.{AreUses, IsRoot, rows_of};
+ghost use Rattle.std.specs.Prelude.{◌≡◌, ◌≤◌, ◌++◌, List, take, length, replicate, true, false};
+ghost use Rattle.std.specs.Prelude.{OnOk, IfOk, slice_index_or};
+ghost use Rattle.mm_step.specs.Profiles.{limit_of};
+ghost use Rattle.mm_step.specs.Proof.{IsWithin};
+ghost use Rattle.mm_step.specs.Steps.{AreSteps};
+ghost use Rattle.mm_listing.specs.Listing.{ListedStep, TellsStep, TellSteps};
+ghost use Rattle.mm_listing.specs.Uses.{rows_of};
+ghost use Rattle.mm_proof.specs.CheckedPrefix.{Pass};
 ghost use Rattle.mm_proof.specs.Verified.{OfMoves};
-ghost use Rattle.mm_rules.specs.declared.ask.AskFault.TheVariants.{Memory};
 ghost use Rattle.mm_render.specs.ShownUses.{more_uses_text, used_step_text, used_steps_text};
-ghost use Rattle.mm_render.specs.ShownUses.{uses_text as text_of_uses};
-ghost use Rattle.mm_verdict.specs.Mirror.Theorems.{IsWholeProof};
-ghost use Rattle.mm_render.specs.Mirror.Theorems.{IsUsesTextOf};
+ghost use Rattle.mm_render.specs.ShownUses.{uses_text as text_of_uses, TellsUses};
 
 use crate::listing_lines::push_name;
-use mm_frame::Book;
-use mm_listing::{Line, UsedSteps, partial_listing, uses_of};
-use mm_rules::{AskFault, push_decimal, push_symbols};
-use mm_step::ProofFault;
-use mm_verdict::Theorem;
+use mm_frame::{Book, LabelId};
+use mm_listing::{Line, partial_lines_before, uses_before};
+use mm_proof::Steps;
+use mm_rules::{push_decimal, push_symbols};
 use std::alloc::{AllocError, Global};
 
 /// Appends a comma and the number, for each of these steps.
@@ -101,99 +101,81 @@ fn all_told(alloc: Global, count: usize) -> Result<Vec<bool>, AllocError>
     Ok(told)
 }
 
-/// The steps of a theorem's proof, with what each of them uses.
-fn used_of(
+/// The text of all steps among so many first moves.
+fn whole_text(
     alloc: Global,
     book: &Book,
-    theorem: &Theorem,
-    essential: bool,
-) -> Result<UsedSteps, AskFault>
-    requires { IsWholeProof book.now.statements theorem.now.id.0 theorem.now.steps }
-    ensures used { IfOk result (λ used.
-        OfMoves book.now.statements theorem.now.id.0 theorem.now.steps.moves
-        (λ index s moves. AreLinesWith book.now.statements (take index book.now.statements) moves
-        (λ step. not essential) used.lines.items
-        × AreUses essential (take index book.now.statements) moves (rows_of used.uses.items)
-        × IsRoot moves used.root)) }
-    ensures memory { IfErr result (λ fault. fault ≡ Memory) }
+    id: LabelId,
+    steps: &Steps,
+    passed: usize,
+) -> Result<Vec<u8>, AllocError>
+    requires steps { AreSteps book.now.statements id.0 steps.now.moves }
+    requires within { passed ≤ length steps.now.moves }
+    requires pass { OfMoves book.now.statements id.0 steps.now.moves
+        (λ index s moves. Pass (IsWithin (limit_of steps.now.profile))
+        (take index book.now.statements) (take passed moves)) }
+    ensures { IfOk result (λ text. OfMoves book.now.statements id.0 steps.now.moves
+        (λ index s moves. TellsUses false (take index book.now.statements) (take passed moves)
+        text.items)) }
 {
-    match uses_of(alloc, book, theorem.id, &theorem.steps, essential) {
-        Ok(used) => Ok(used),
-        Err(ProofFault::Memory) => Err(AskFault::Memory),
-        // `check` accepted the proof under this profile.
-        Err(ProofFault::Rule { .. }) => unreachable!(),
-    }
-}
-
-/// The steps of a theorem's proof, with the expressions of those that are reported.
-fn told_lines(
-    alloc: Global,
-    book: &Book,
-    theorem: &Theorem,
-    told: &[bool],
-) -> Result<Vec<Line>, AskFault>
-    requires { IsWholeProof book.now.statements theorem.now.id.0 theorem.now.steps }
-    ensures listed { IfOk result (λ lines.
-        OfMoves book.now.statements theorem.now.id.0 theorem.now.steps.moves
-        (λ index s moves. AreLinesWith book.now.statements (take index book.now.statements) moves
-        (λ index. slice_index_or told.now index false) lines.items)) }
-    ensures memory { IfErr result (λ fault. fault ≡ Memory) }
-{
-    match partial_listing(alloc, book, theorem.id, &theorem.steps, told) {
-        Ok(lines) => Ok(lines),
-        Err(ProofFault::Memory) => Err(AskFault::Memory),
-        // `check` accepted the proof under this profile.
-        Err(ProofFault::Rule { .. }) => unreachable!(),
-    }
-}
-
-/// The text of all steps.
-fn whole_text(alloc: Global, book: &Book, theorem: &Theorem) -> Result<Vec<u8>, AskFault>
-    requires { IsWholeProof book.now.statements theorem.now.id.0 theorem.now.steps }
-    ensures text { IfOk result (λ text.
-        OfMoves book.now.statements theorem.now.id.0 theorem.now.steps.moves
-        (λ index s moves.
-        IsUsesTextOf false (take index book.now.statements) moves text.items)) }
-    ensures memory { IfErr result (λ fault. fault ≡ Memory) }
-{
-    let used = used_of(alloc, book, theorem, false)?;
+    let used = uses_before(alloc, book, id, steps, passed, false)?;
     let told = all_told(alloc, used.uses.len())?;
-    Ok(text_of(alloc, book, &used.lines, &used.uses, &told)?)
+    text_of(alloc, book, &used.lines, &used.uses, &told)
 }
 
-/// The text of the steps that are reached through `$e`. It asks for their expressions alone, once it
-/// is known which they are: those of the others may take far more memory than the text.
-fn essential_text(alloc: Global, book: &Book, theorem: &Theorem) -> Result<Vec<u8>, AskFault>
-    requires { IsWholeProof book.now.statements theorem.now.id.0 theorem.now.steps }
-    ensures text { IfOk result (λ text.
-        OfMoves book.now.statements theorem.now.id.0 theorem.now.steps.moves
-        (λ index s moves.
-        IsUsesTextOf true (take index book.now.statements) moves text.items)) }
-    ensures memory { IfErr result (λ fault. fault ≡ Memory) }
-{
-    let used = used_of(alloc, book, theorem, true)?;
-    let told = used.reached(alloc)?;
-    let lines = told_lines(alloc, book, theorem, &told)?;
-    Ok(text_of(alloc, book, &lines, &used.uses, &told)?)
-}
-
-/// The text that tells what the steps of a theorem's proof use.
-pub(crate) fn uses_text(
+/// The text of those steps among so many first moves that are reached through `$e`. It asks for their
+/// expressions alone, once it is known which they are: those of the others may take far more memory
+/// than the text.
+fn essential_text(
     alloc: Global,
     book: &Book,
-    theorem: &Theorem,
+    id: LabelId,
+    steps: &Steps,
+    passed: usize,
+) -> Result<Vec<u8>, AllocError>
+    requires steps { AreSteps book.now.statements id.0 steps.now.moves }
+    requires within { passed ≤ length steps.now.moves }
+    requires pass { OfMoves book.now.statements id.0 steps.now.moves
+        (λ index s moves. Pass (IsWithin (limit_of steps.now.profile))
+        (take index book.now.statements) (take passed moves)) }
+    ensures { IfOk result (λ text. OfMoves book.now.statements id.0 steps.now.moves
+        (λ index s moves. TellsUses true (take index book.now.statements) (take passed moves)
+        text.items)) }
+{
+    let used = uses_before(alloc, book, id, steps, passed, true)?;
+    let told = used.reached(alloc)?;
+    let lines = partial_lines_before(alloc, book, id, steps, passed, &told)?;
+    text_of(alloc, book, &lines, &used.uses, &told)
+}
+
+/// The text that tells what the steps among so many first moves of the `$p` with this number use,
+/// which pass: a line for each, with its number, the numbers of the steps that gave it its mandatory
+/// hypotheses, its name, and its expression. If `essential`, only the steps that are reached through
+/// `$e` from those that made what is left, and only what they use so.
+///
+/// # Errors
+///
+/// Where a growth was refused.
+pub fn uses_text(
+    alloc: Global,
+    book: &Book,
+    id: LabelId,
+    steps: &Steps,
+    passed: usize,
     essential: bool,
-) -> Result<Vec<u8>, AskFault>
-    requires { IsWholeProof book.now.statements theorem.now.id.0 theorem.now.steps }
-    ensures text { IfOk result (λ text.
-        OfMoves book.now.statements theorem.now.id.0 theorem.now.steps.moves
-        (λ index s moves.
-        IsUsesTextOf essential (take index book.now.statements) moves text.items)) }
-    ensures memory { IfErr result (λ fault. fault ≡ Memory) }
+) -> Result<Vec<u8>, AllocError>
+    requires steps { AreSteps book.now.statements id.0 steps.now.moves }
+    requires within { passed ≤ length steps.now.moves }
+    requires pass { OfMoves book.now.statements id.0 steps.now.moves
+        (λ index s moves. Pass (IsWithin (limit_of steps.now.profile))
+        (take index book.now.statements) (take passed moves)) }
+    ensures { IfOk result (λ text. OfMoves book.now.statements id.0 steps.now.moves
+        (λ index s moves. TellsUses essential (take index book.now.statements) (take passed moves)
+        text.items)) }
 {
     if essential {
-        essential_text(alloc, book, theorem)
+        essential_text(alloc, book, id, steps, passed)
     } else {
-        whole_text(alloc, book, theorem)
+        whole_text(alloc, book, id, steps, passed)
     }
 }

@@ -145,7 +145,8 @@ impl Graph {
             nodes.push(node)?;
         }
         graph.forget_edges_of_hypotheses();
-        let root = node_of(&nodes, used.root);
+        // A proof leaves one entry.
+        let root = node_of(&nodes, used.roots.first().copied().unwrap_or(0));
         Ok(Shared { graph, root })
     }
 

@@ -572,6 +572,11 @@ fn essential_steps(rt: HostRuntime) -> Result<(), Fail> {
 }
 
 #[test]
+fn uses_of_known_steps(rt: HostRuntime) -> Result<(), Fail> {
+    compare_commands(&rt, rt.alloc(), &uses::KNOWN_USES)
+}
+
+#[test]
 fn letters_of_steps(rt: HostRuntime) -> Result<(), Fail> {
     compare_commands(&rt, rt.alloc(), &letters::LETTERS)
 }

@@ -2,8 +2,9 @@
 
 use crate::Case;
 use crate::Part::Text;
-use mm_check::Command::{self, About};
-use mm_check::Question;
+use mm_check::Command::{self, About, Lone};
+use mm_check::LoneQuestion::Known;
+use mm_check::{Question, Telling};
 use mm_core_tests::databases::{FIRST, HEAD};
 
 /// Terms, their equality and its axioms, and a rule with two essential hypotheses.
@@ -173,6 +174,130 @@ pub(crate) const ESSENTIAL: [(Command<'static>, Case); 3] = [
             files: &[(b"first.mm", &[Text(FIRST)])],
             reply: b"3 - tpl term ( 0 + 0 )\n",
             status: 0,
+        },
+    ),
+];
+
+/// The steps of proofs alone, as far as they are known.
+pub(crate) const KNOWN_USES: [(Command<'static>, Case); 4] = [
+    (
+        Lone {
+            label: b"th",
+            question: Known(Telling::Uses { essential: true }),
+        },
+        Case {
+            name: "the essential steps of a proof alone",
+            files: &[(
+                b"equals.mm",
+                &[
+                    Text(EQUALS),
+                    Text(b"no $p |- t = t $= nope $.\n"),
+                    Text(TAGGED),
+                ],
+            )],
+            reply: b"\
+10 - a2 |- ( t + 0 ) = t\n\
+19 - a1 |- ( ( t + 0 ) = t -> ( ( t + 0 ) = t -> t = t ) )\n\
+20 10,19 mp |- ( ( t + 0 ) = t -> t = t )\n\
+21 10,20 mp |- t = t\n",
+            status: 0,
+        },
+    ),
+    (
+        Lone {
+            label: b"th",
+            question: Known(Telling::Uses { essential: false }),
+        },
+        Case {
+            name: "what the steps before an unknown one use",
+            files: &[(
+                b"equals.mm",
+                &[
+                    Text(EQUALS),
+                    Text(b"th $p |- t = t $= ( weq a2 ) ACZAAB?B $.\n"),
+                ],
+            )],
+            reply: b"\
+1 - tt term t
+2 1 a2 |- ( t + 0 ) = t
+3 - tt term t
+4 - tt term t
+5 3,4 weq wff t = t
+  step 2, a2 at 15:31, gives
+    |- ( t + 0 ) = t
+  step 5, weq at 15:35, gives
+    wff t = t
+  th states
+    |- t = t
+",
+            status: 3,
+        },
+    ),
+    (
+        Lone {
+            label: b"th",
+            question: Known(Telling::Uses { essential: true }),
+        },
+        Case {
+            name: "the essential steps that are left before an unknown one",
+            files: &[(
+                b"equals.mm",
+                &[
+                    Text(EQUALS),
+                    Text(b"th $p |- t = t $= ( weq a2 ) ACZAABD?D $.\n"),
+                ],
+            )],
+            reply: b"\
+2 - a2 |- ( t + 0 ) = t
+5 - weq wff t = t
+  step 2, a2 at 15:31, gives
+    |- ( t + 0 ) = t
+  step 5, weq at 15:35, gives
+    wff t = t
+  step 6, @2 at 15:36, gives
+    |- ( t + 0 ) = t
+  th states
+    |- t = t
+",
+            status: 3,
+        },
+    ),
+    (
+        Lone {
+            label: b"th",
+            question: Known(Telling::Uses { essential: true }),
+        },
+        Case {
+            name: "the essential steps that are left before a fault",
+            files: &[(
+                b"equals.mm",
+                &[
+                    Text(EQUALS),
+                    Text(b"th $p |- t = t $= "),
+                    Text(b"( tze tpl weq a2 wim a1 mp ) ABCZADZAADZAEZJJKFLIAAGHHH $.\n"),
+                ],
+            )],
+            reply: b"\
+10 - a2 |- ( t + 0 ) = t
+19 - a1 |- ( ( t + 0 ) = t -> ( ( t + 0 ) = t -> t = t ) )
+20 10,19 mp |- ( ( t + 0 ) = t -> t = t )
+21 10,20 mp |- t = t
+no equals.mm 15 th P8 22
+equals.mm:15:73: P8: the stack has fewer entries than the step takes, in the proof of th, at step 22
+  step: mp
+  entries it takes: 4, entries there are: 1
+  wp states
+    wff P
+  wq states
+    wff Q
+  min states
+    |- P
+  maj states
+    |- ( P -> Q )
+  step 21, mp at 15:72, gives
+    |- t = t
+",
+            status: 1,
         },
     ),
 ];

@@ -106,6 +106,9 @@ pub enum Telling {
     Steps,
     /// Where it stands, and its letters.
     Letters,
+    /// What it uses; if `essential`, of the steps alone that are reached, through `$e`, from those
+    /// that made what is left on the stack.
+    Uses { essential: bool },
 }
 
 /// A question about the theorem with a label alone, over the statements before it, whatever their

@@ -31,6 +31,7 @@ use Rattle.mm_verdict.specs.declared.question.WholeQuestion.{WholeQuestion}
 use Rattle.mm_verdict.specs.declared.question.WholeQuestion.TheVariants.{Check, Faults, Why, Axioms, Shorter}
 use Rattle.mm_verdict.specs.declared.question.LoneQuestion.{LoneQuestion}
 use Rattle.mm_verdict.specs.declared.question.LoneQuestion.TheVariants as lone
+use Rattle.mm_verdict.specs.declared.question.Telling.{Telling}
 use Rattle.mm_verdict.specs.declared.question.Telling.TheVariants as telling
 use Rattle.mm_verdict.specs.declared.form.Form.{Form}
 use Rattle.mm_verdict.specs.declared.form.Form.TheVariants.{Normal, Packed, Small}
@@ -162,7 +163,7 @@ find_line =
     (flag_rule (codes "hypotheses")))
     files_rule
 
--- `show [--known] [--letters] LABEL FILES..` and `show [--essential | --uses] LABEL FILES..`
+-- `show [--known] [--letters | --essential | --uses] LABEL FILES..`
 abbrev pub show_line : App
 show_line =
     with_rule
@@ -505,19 +506,30 @@ AsksShow words label known letters essential uses names =
     × AreShowFlags rows known letters essential uses
     × (unwrap_or (all_of (codes "FILES") rows) [] ≡ names)
 
--- Flags are given that exclude each other: `--essential` and `--uses`, and each of these and one of
--- `--known` and `--letters`.
-abbrev pub AreSeveral : (known letters essential uses : Bool) → Type 0
-AreSeveral known letters essential uses =
-    (IsTrue essential × IsTrue uses)
-    ⊎ ((IsTrue essential ⊎ IsTrue uses) × (IsTrue known ⊎ IsTrue letters))
+-- They ask for the steps of the proof of the theorem with this label, told so; with `--known` for those
+-- that pass.
+abbrev pub AsksTold : List Text → (label : Text) → (known : Bool) → Telling → List Text → Type 0
+AsksTold words label known telling.Steps names =
+    AsksShow words label known false false false names
+AsksTold words label known telling.Letters names =
+    AsksShow words label known true false false names
+AsksTold words label known (telling.Uses true) names =
+    AsksShow words label known false true false names
+AsksTold words label known (telling.Uses false) names =
+    AsksShow words label known false false true names
+
+-- two of `--letters`, `--essential` and `--uses` are given, which exclude each other
+abbrev pub AreSeveral : (letters essential uses : Bool) → Type 0
+AreSeveral letters essential uses =
+    (IsTrue letters × IsTrue essential)
+    ⊎ ((IsTrue letters × IsTrue uses) ⊎ (IsTrue essential × IsTrue uses))
 
 -- They ask so with such flags.
 abbrev pub AsksShowAmiss : List Text → Type 0
 AsksShowAmiss words =
     (rows : List Row) × (known letters essential uses : Bool)
     × Commands words (codes "show") rows × AreShowFlags rows known letters essential uses
-    × AreSeveral known letters essential uses
+    × AreSeveral letters essential uses
 
 -- They ask about the assertion with this label for the theorems whose proofs use it, or with `--all`
 -- for those that rest on it.
@@ -683,12 +695,10 @@ AsksAbout words label (question.Axioms essential) names =
     AsksAxioms words false essential None (label ∷ names) × (names ≢ [])
 AsksAbout words label (question.Chain other) names =
     AsksAxioms words false false (Some other.now) (label ∷ names) × (names ≢ [])
-AsksAbout words label question.Show names = AsksShow words label false false false false names
-AsksAbout words label question.Letters names = AsksShow words label false true false false names
-AsksAbout words label (question.Uses true) names =
-    AsksShow words label false false true false names
-AsksAbout words label (question.Uses false) names =
-    AsksShow words label false false false true names
+AsksAbout words label question.Show names = AsksTold words label false telling.Steps names
+AsksAbout words label question.Letters names = AsksTold words label false telling.Letters names
+AsksAbout words label (question.Uses essential) names =
+    AsksTold words label false (telling.Uses essential) names
 AsksAbout words label (question.Form form whole) names =
     AsksForm (name_of_form form) words label whole names
 AsksAbout words label (question.Same text) names = ⊥
@@ -696,12 +706,9 @@ AsksAbout words label (question.Users all) names = AsksUsers words label all nam
 AsksAbout words label question.Minimized names = AsksMinimized words label names
 
 -- They ask this question about the theorem with this label alone: by `show --known` for the steps that
--- pass, with `--letters` for their places and letters too. No words alone ask to try a text.
+-- pass. No words alone ask to try a text.
 abbrev pub AsksLone : List Text → (label : Text) → LoneQuestion → List Text → Type 0
-AsksLone words label (lone.Known telling.Steps) names =
-    AsksShow words label true false false false names
-AsksLone words label (lone.Known telling.Letters) names =
-    AsksShow words label true true false false names
+AsksLone words label (lone.Known telling) names = AsksTold words label true telling names
 AsksLone words label (lone.Try name text) names = ⊥
 
 -- They ask to run this command over the files with these names. A line for each assertion is asked for

@@ -1,4 +1,4 @@
--- The steps that are reached from the last one, in one pass from it to the first.
+-- The steps that are reached from the roots, in one pass from the last step to the first.
 use Rattle.std.proofs.Common.{◌≡◌, ℕ, ◌+◌, ◌-◌, ◌<◌, ◌≤◌, List, [], ◌∷◌, ◌++◌, length}
 use Rattle.std.proofs.Common.{set, get_or, slice_get, slice_index_or, Contains, Some, Bool}
 use Rattle.std.proofs.Common.{true, false, ◌⊎◌, ◌↔◌, inl, inr, refl, sym, ap, subst, ◌∙◌}
@@ -91,13 +91,14 @@ row_among rows flags index row earlier long there k d less =
 
 -- ---- one pass
 
--- the flags are those of the root, and of what the steps from an index on use that are reached
-pub record HasReached (root : ℕ) (rows : List (List ℕ)) (flags : List Bool)
+-- the flags are those of the roots, and of what the steps from an index on use that are reached
+pub record HasReached (roots : List ℕ) (rows : List (List ℕ)) (flags : List Bool)
     (done : ℕ) : Type 0 where
   pub count : length flags ≡ length rows
   pub each : (index : ℕ) → index < length flags
-      → IsReached flags index ↔ ((index + 1 ≡ root) ⊎ ((user : ℕ) × (used : List ℕ) × (done ≤ user)
-      × IsReached flags user × (slice_get rows user ≡ Some used) × Contains used (index + 1)))
+      → IsReached flags index ↔ (Contains roots (index + 1)
+      ⊎ ((user : ℕ) × (used : List ℕ) × (done ≤ user) × IsReached flags user
+      × (slice_get rows user ≡ Some used) × Contains used (index + 1)))
 
 -- a flag that is set is one of them
 reached_within : (flags : List Bool) (index : ℕ) → IsReached flags index → index < length flags
@@ -106,31 +107,30 @@ reached_within flags index is = elim (cases_lt index (length flags)) [
   | inr past ↦ absurd (false≢true (sym (get_or_past flags index false (omega (arith, past))) ∙ is))
 ]
 
-module _ (root : ℕ) (rows : List (List ℕ)) (earlier : AreEarlier rows) where
-  -- before any step only the root is
-  pub reached_root : (none flags : List Bool) → length none ≡ length rows
-      → ((index : ℕ) → ¬ (IsReached none index)) → IsAmong (length rows) root
-      → flags ≡ set none (root - 1) true → HasReached root rows flags (length rows)
-  reached_root none flags long unset among is = rw is (record {
-    count = length-set none (root - 1) true ∙ long;
-    each = λ index within. (
-      (λ set_here. elim (cases_eq index (root - 1)) [
-        | inl same ↦ inl (omega (arith, same, among.0))
-        | inr apart ↦ absurd (unset index
-            (sym (get_or-set_other none (root - 1) index true false apart) ∙ set_here))
-      ]),
-      (λ either. elim either [
-        | inl same ↦ get_or-set_at none (root - 1) index true false (omega (arith, same))
-            (omega (arith, among.0, among.1, long))
-        | inr later ↦ absurd (let least = later.2 in
-            omega (arith, least, slice_get_within rows later.0 later.1 later.4))
-      ]),
-    );
-  })
+module _ (roots : List ℕ) (rows : List (List ℕ)) (earlier : AreEarlier rows) where
+  -- before any step only the roots are
+  pub reached_roots : (none flags : List Bool) → length none ≡ length rows
+      → ((index : ℕ) → ¬ (IsReached none index)) → AreSet none flags roots
+      → HasReached roots rows flags (length rows)
+  reached_roots none flags long unset set = record {
+    count = set.0 ∙ long;
+    each = λ index within.
+        let inside : index < length none = omega (arith, within, set.0) in (
+          (λ is. elim ((set.1 index inside).0 is) [
+            | inl old ↦ absurd (unset index old)
+            | inr in_roots ↦ inl in_roots
+          ]),
+          (λ either. elim either [
+            | inl in_roots ↦ (set.1 index inside).1 (inr in_roots)
+            | inr later ↦ absurd (let least = later.2 in
+                omega (arith, least, slice_get_within rows later.0 later.1 later.4))
+          ]),
+        );
+  }
 
   -- a step that isn't reached
-  pub reached_skipped : (flags : List Bool) (index : ℕ) → HasReached root rows flags (index + 1)
-      → ¬ (IsReached flags index) → HasReached root rows flags index
+  pub reached_skipped : (flags : List Bool) (index : ℕ) → HasReached roots rows flags (index + 1)
+      → ¬ (IsReached flags index) → HasReached roots rows flags index
   reached_skipped flags index was unset = record {
     count = was.count;
     each = λ i within. (
@@ -164,8 +164,8 @@ module _ (root : ℕ) (rows : List (List ℕ)) (earlier : AreEarlier rows) where
 
   -- a step that is, whose uses are set
   pub reached_more : (old new : List Bool) (index : ℕ) (row : List ℕ)
-      → HasReached root rows old (index + 1) → IsReached old index
-      → slice_get rows index ≡ Some row → AreSet old new row → HasReached root rows new index
+      → HasReached roots rows old (index + 1) → IsReached old index
+      → slice_get rows index ≡ Some row → AreSet old new row → HasReached roots rows new index
   reached_more old new index row was here there are = record {
     count = are.0 ∙ was.count;
     each = λ i within.
@@ -221,8 +221,8 @@ module _ (root : ℕ) (rows : List (List ℕ)) (earlier : AreEarlier rows) where
           ]
 
   -- all of them
-  pub reached_all : (flags : List Bool) → HasReached root rows flags 0
-      → AreReached root rows flags
+  pub reached_all : (flags : List Bool) → HasReached roots rows flags 0
+      → AreReached roots rows flags
   reached_all flags all = record {
     count = all.count;
     each = λ index within. (

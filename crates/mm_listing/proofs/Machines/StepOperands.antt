@@ -43,7 +43,7 @@ pub sources_long : (sources origins : List ℕ) → length (sources_of sources o
 sources_long sources origins = length-map origins (λ origin. slice_index_or sources (origin - 1) 0)
 
 -- one origin more
-sources_more : (sources origins : List ℕ) (at : ℕ) → at < length origins
+pub sources_more : (sources origins : List ℕ) (at : ℕ) → at < length origins
     → sources_of sources (take (at + 1) origins)
     ≡ sources_of sources (take at origins) ++ get_or sources (get_or origins at 0 - 1) 0 ∷ []
 sources_more sources origins at within = rw (take_more origins at 0 within) (simp map-append)

@@ -7,7 +7,8 @@ use Rattle.std.specs.List.{AllZip}
 use Rattle.std.proofs.lemmas.Bool.{cases_lt, false≢true}
 use Rattle.std.proofs.lemmas.Option.{same_Some, slice_get_within, slice_get-get_or, slice_get-map}
 use Rattle.std.proofs.lemmas.Option.{get_or_from_slice_get}
-use Rattle.std.proofs.lemmas.List.{nil_from_length, length-drop, length-append, take-append-le, take-append-drop}
+use Rattle.std.proofs.lemmas.List.{nil_from_length, length-drop, length-append, take-append-le}
+use Rattle.std.proofs.lemmas.List.{take-append-drop, map-append}
 use Rattle.mm_base.specs.declared.statement.Kind.TheVariants.{Floating, Essential}
 use Rattle.mm_base.proofs.Lists.{at_from_contains, get_kept, get_take, get_within, split_at}
 use Rattle.mm_base.proofs.Lists.{zip_weaker}
@@ -26,7 +27,7 @@ use Rattle.mm_step.specs.Proof.{Passed}
 use Rattle.mm_step.specs.Steps.{IsNumberedMove}
 use Rattle.mm_listing.specs.Listing.{StandsAfter}
 use Rattle.mm_listing.specs.Halted.{LeaveEntries, AreOrigins}
-use Rattle.mm_listing.specs.Uses.{StandsFor, AreSources, IsAsked, IsUsing}
+use Rattle.mm_listing.specs.Uses.{StandsFor, AreSources, AreRoots, IsAsked, IsUsing}
 use Rattle.mm_step.specs.Mirror.CodeApply.{IsCallOf}
 use Rattle.mm_listing.specs.Mirror.StepUses.{sources_of, IsAskedOf, IsAmong, AreNoLater, AreEarlier}
 use Rattle.mm_step.proofs.ProofSteps.OneStep.{hypothesis_or_assertion, one_names}
@@ -34,7 +35,7 @@ use Rattle.mm_step.proofs.ProofSteps.Derivations.{derive_apart, makes_split, mak
 use Rattle.mm_step.proofs.ProofSteps.Derivations.{roots_derive, roots-beside}
 use Rattle.mm_proof.proofs.ProofVerdicts.VerdictLaws.{derive_any}
 use Rattle.mm_proof.proofs.ProofVerdicts.FirstFault.{steps_in-append}
-use Rattle.mm_step.proofs.ByNumbers.NumberedSymbols.{drop_get, hypothesis_at, as_many}
+use Rattle.mm_step.proofs.ByNumbers.NumberedSymbols.{hypothesis_at, as_many}
 use Rattle.mm_step.proofs.ByNumbers.StepByAssertion.{label_of, names_of, called_of}
 use Rattle.mm_listing.proofs.Machines.ListedLines.{old_or_new, one_step}
 use Rattle.mm_listing.proofs.Machines.StepOperands.{those_same, sources_long, of_step, of_mark}
@@ -199,6 +200,31 @@ sources_given sources (origin ∷ origins) among =
       sources_given sources origins (λ index step there. among (suc index) step there),
     )
 
+-- those of all entries are the roots
+pub roots_made : (Fits : Expression → Type 0) (before : List Sentence)
+    (moves : List (Move (List ℕ))) (stack kept : List Expression) (origins sources : List ℕ)
+    → Passed Fits before moves stack kept → AreOrigins Fits before moves stack origins
+    → AreSources moves sources → AreRoots before moves (sources_of sources origins)
+roots_made Fits before moves stack kept origins sources passed made resolved = record {
+  stack = stack;
+  kept = kept;
+  passed = passed_any Fits before moves stack kept passed;
+  origins = origins;
+  made = origins_any Fits before moves stack origins made;
+  sources = sources;
+  resolved = resolved;
+  given = sources_given sources origins (λ index step there.
+      subst (λ k. IsAmong k step) (sym resolved.count)
+      (origin_among Fits before moves stack origins index step made there));
+}
+
+-- cut at an index
+sources_cut : (sources origins : List ℕ) (n : ℕ)
+    → sources_of sources origins
+    ≡ sources_of sources (take n origins) ++ sources_of sources (drop n origins)
+sources_cut sources origins n =
+    ap (sources_of sources) (sym (take-append-drop n origins)) ∙ simp map-append
+
 module _ (Fits : Expression → Type 0) (before : List Sentence) (all : AllMeant before)
     (moves : List (Move (List ℕ))) (label : List ℕ) (stack kept stack' kept' : List Expression)
     (origins sources : List ℕ) where
@@ -258,23 +284,12 @@ module _ (Fits : Expression → Type 0) (before : List Sentence) (all : AllMeant
           named.2,
           named.3,
           sources_of sources rest,
-          record {
-            stack = stack;
-            kept = kept;
-            passed = passed_any Fits before moves stack kept p;
-            others = take n origins;
-            origins = rest;
-            made = subst (AreOrigins AnyExpression before moves stack)
-                (sym (take-append-drop n origins))
-                (origins_any Fits before moves stack origins made);
-            paired = taken ∙ named.4;
-            sources = sources;
-            resolved = resolved;
-            given = sources_given sources rest (λ index step there.
-                subst (λ k. IsAmong k step) (sym resolved.count)
-                (origin_among Fits before moves stack origins (n + index) step made
-                (sym (drop_get origins n index) ∙ there)));
-          },
+          (
+            sources_of sources (take n origins),
+            subst (AreRoots before moves) (sources_cut sources origins n)
+                (roots_made Fits before moves stack kept origins sources p made resolved),
+            sources_long sources rest ∙ taken ∙ named.4,
+          ),
           those_same (λ i operand. Asked i) (λ i operand. IsAsked essential named.2 i)
               (λ i operand. asked named.0 named.1 named.2 named.3 i) 0 (sources_of sources rest)
               used those,

@@ -1,10 +1,12 @@
 -- What a linker keeps of the steps that each step uses.
 use Rattle.std.proofs.Common.{◌≡◌, ℕ, ◌+◌, ◌-◌, ◌<◌, ◌≤◌, List, [], ◌∷◌, ◌++◌, length, take, drop}
-use Rattle.std.proofs.Common.{get_or, slice_get, Some, Bool, true, Contains, All, ◌↔◌, refl, sym}
+use Rattle.std.proofs.Common.{get_or, slice_get, Some, Bool, true, false, not, ◌||◌, Contains, All}
+use Rattle.std.proofs.Common.{◌↔◌, refl, sym}
 use Rattle.std.proofs.Common.{ap, subst, ◌∙◌, arith, Vec}
 use Rattle.std.proofs.lemmas.Option.{slice_get-get_or, none-some}
-use Rattle.std.proofs.lemmas.List.{map-append, length-map, length-append}
-use Rattle.mm_base.proofs.Lists.{get_within, zip_front, zip_push}
+use Rattle.std.proofs.lemmas.List.Elements.{Contains-get_or}
+use Rattle.std.proofs.lemmas.List.{map-append, length-map, length-append, take-map}
+use Rattle.mm_base.proofs.Lists.{zip_front, zip_push, zip_take}
 use Rattle.mm_frame.specs.Sentence.{Sentence}
 use Rattle.mm_frame.specs.Frame.{AreThose}
 use Rattle.mm_step.specs.declared.call.Call.{Call}
@@ -15,11 +17,19 @@ use Rattle.mm_step.specs.Moves.{Move, name, again, mark, is_step, steps_in}
 use Rattle.mm_step.specs.Proof.{Passed, IsWithin}
 use Rattle.mm_step.specs.Steps.{IsNumberedMove, AreNumberedMoves}
 use Rattle.mm_listing.specs.Listing.{StandsAfter}
-use Rattle.mm_listing.specs.Uses.{AreOfSteps, StandsFor, AreSources, IsAsked, IsUsing, IsRoot}
+use Rattle.mm_listing.specs.Uses.{AreOfSteps, StandsFor, AreRoots, AreLinked, IsAsked, IsUsing}
 use Rattle.mm_listing.specs.Uses.{rows_of}
 use Rattle.mm_step.specs.Mirror.CodeApply.{IsCallOf}
+use Rattle.mm_step.specs.Mirror.CodeRun.{HasRun}
 use Rattle.mm_step.specs.Mirror.CodeVerify.{names_at, all_names_at}
-use Rattle.mm_listing.specs.Mirror.CodeLines.{HasListed}
+use Rattle.mm_listing.specs.Mirror.CodeLines.{AreLinesAt, HasListed}
+use Rattle.mm_listing.specs.declared.lines.Line.{Line}
+use Rattle.mm_step.specs.Mirror.Sites.{ProofSite, IsSite}
+use Rattle.mm_code.specs.declared.code.Code.{Code}
+use Rattle.mm_proof.specs.Mirror.CodeSteps.{code_move, code_moves}
+use Rattle.mm_proof.specs.Verified.{OfMoves}
+use Rattle.mm_step.proofs.ByNumbers.OneIndex.{one_index}
+use Rattle.mm_listing.proofs.Machines.ToldLines.{lines_unless}
 use Rattle.mm_listing.specs.Mirror.StepUses.{sources_of, IsAskedOf, IsAmong, AreNoLater, AreSourcesAt}
 use Rattle.mm_listing.specs.Mirror.StepUses.{AreUsesAt, HasLinked, MayBeLinked}
 use Rattle.mm_listing.specs.Mirror.StackOrigins.{AreOriginsAt}
@@ -33,7 +43,7 @@ use Rattle.mm_listing.proofs.Machines.StepOperands.{those_within, of_none, of_st
 use Rattle.mm_listing.proofs.Machines.StepSources.{sources_step, sources_mark, step_first}
 use Rattle.mm_listing.proofs.Machines.StepSources.{stands_before, stands_within, origin_among}
 use Rattle.mm_listing.proofs.Machines.StepSources.{name_using, asked_same, sources_among, rows_more}
-use Rattle.mm_listing.proofs.Machines.StepSources.{no_later_more}
+use Rattle.mm_listing.proofs.Machines.StepSources.{no_later_more, roots_made}
 
 -- ==== a linker
 
@@ -354,17 +364,14 @@ rows_pushed lists new list is = rw is (simp map-append)
 module _ (limit : ℕ) (st : List Sentence) (index : ℕ) (prefix : List (Move ℕ))
     (sources : List ℕ) (resolved : AreSourcesAt st prefix sources)
     (named : (names : List (Move (List ℕ))) × AreNumberedMoves st prefix names) where
-  -- where an entry is left, there is a step
-  pub some_source : (stack : List (List ℕ)) (origins e : List ℕ)
-      → AreOriginsAt limit st index prefix stack origins → stack ≡ e ∷ [] → 0 < length sources
-  some_source stack origins e made is =
-      let own = made named.0 named.1 in
-      let long : length origins ≡ 1 =
-      own.count ∙ length-map stack (names_at st) ∙ ap length is in
-      let origin = get_within origins 0 (omega (arith, long)) in
-      let among = origin_among (IsWithin limit) (take index st) named.0 _ origins 0 origin.0 own
-      origin.1 in
-      omega (arith, among.0, among.1, (resolved named.0 named.1).count)
+  -- the steps that made the entries are among those that stand for others
+  pub made_among : (stack : List (List ℕ)) (origins : List ℕ)
+      → AreOriginsAt limit st index prefix stack origins → All (IsAmong (length sources)) origins
+  made_among stack origins made k d less =
+      let origin = get_or origins k d in
+      subst (λ n. IsAmong n origin) (sym (resolved named.0 named.1).count)
+      (origin_among (IsWithin limit) (take index st) named.0 _ origins k origin
+      (made named.0 named.1) (slice_get-get_or origins k d less))
 
   -- as many rows as sources
   pub rows_long : (essential : Bool) (rows : List (List ℕ)) → AreUsesAt essential st index prefix
@@ -373,16 +380,56 @@ module _ (limit : ℕ) (st : List Sentence) (index : ℕ) (prefix : List (Move �
   rows_long essential rows used =
       (used named.0 named.1).count ∙ sym (resolved named.0 named.1).count
 
--- what the last step stands for is the root
-pub root_of : (moves : List (Move (List ℕ))) (sources : List ℕ) (root : ℕ)
-    → AreSources moves sources → slice_get sources (length sources - 1) ≡ Some root
-    → IsRoot moves root
-root_of moves sources root resolved there =
-    (sources, resolved, subst (λ n. slice_get sources (n - 1) ≡ Some root) resolved.count there)
+-- what the steps that made the entries stand for are the roots
+pub roots_at : (limit : ℕ) (st : List Sentence) (index : ℕ) (prefix : List (Move ℕ))
+    (stack kept : List (List ℕ)) (count : ℕ) (origins sources : List ℕ)
+    → HasRun limit st index prefix stack kept count
+    → AreOriginsAt limit st index prefix stack origins → AreSourcesAt st prefix sources
+    → (moves : List (Move (List ℕ))) → AreNumberedMoves st prefix moves
+    → AreRoots (take index st) moves (sources_of sources origins)
+roots_at limit st index prefix stack kept count origins sources run made resolved moves numbered =
+    roots_made (IsWithin limit) (take index st) moves (all_names_at st stack)
+    (all_names_at st kept) origins sources (run.passed moves numbered) (made moves numbered)
+    (resolved moves numbered)
 
--- it is one of the steps
-pub root_among : (sources : List ℕ) (root : ℕ) → AreNoLater sources → 0 < length sources
-    → slice_get sources (length sources - 1) ≡ Some root → IsAmong (length sources) root
-root_among sources root no_later some there =
-    let s = no_later (length sources - 1) root there in
-    (s.0, omega (arith, s.1, some))
+-- they are among the steps
+pub roots_among : (sources origins : List ℕ) → AreNoLater sources
+    → All (IsAmong (length sources)) origins
+    → All (IsAmong (length sources)) (sources_of sources origins)
+roots_among sources origins no_later among k d less =
+    let roots = sources_of sources origins in
+    sources_among sources origins (get_or roots k d) no_later among
+    (Contains-get_or roots k d less)
+
+-- ==== of first moves
+
+-- what is linked of their numbers is of their names
+pub front_linked : (site : ProofSite) (ids : List ℕ) (said : List Code) (n : ℕ) → IsSite site
+    → (essential : Bool) (stack kept : List (List ℕ)) (count : ℕ) (lines : List Line)
+    (rows : List (List ℕ)) (origins sources : List ℕ)
+    → HasRun site.limit site.statements site.index (code_moves ids (take n said)) stack kept count
+    → AreLinesAt site.statements (λ step. not essential || get_or [] step false) site.index
+    (code_moves ids (take n said)) lines
+    → AreOriginsAt site.limit site.statements site.index (code_moves ids (take n said)) stack
+    origins
+    → AreSourcesAt site.statements (code_moves ids (take n said)) sources
+    → AreUsesAt essential site.statements site.index (code_moves ids (take n said)) rows
+    → OfMoves site.statements site.number (code_moves ids said) (λ index s moves.
+    AreLinked essential site.statements (take index site.statements) (take n moves) lines rows
+    (sources_of sources origins))
+front_linked site ids said n own essential stack kept count lines rows origins sources run listed made
+    resolved used index s moves proof numbered =
+    let st = site.statements in
+    let names = take n moves in
+    let front = subst (λ (l : List (Move ℕ)). AreNumberedMoves st l names)
+    (take-map (code_move ids) n said)
+    (zip_take (IsNumberedMove st) (code_moves ids said) moves n numbered) in
+    let here : site.index ≡ index =
+    one_index st site.number site.index index own.s s own.proof.numbered proof.numbered in
+    subst (λ i. AreLinked essential st (take i st) names lines rows (sources_of sources origins))
+    here (
+      lines_unless essential st (take site.index st) names lines (listed names front),
+      used names front,
+      roots_at site.limit st site.index (code_moves ids (take n said)) stack kept count origins
+          sources run made resolved names front,
+    )

@@ -12,8 +12,7 @@ use Rattle.mm_step.specs.Moves.{Move}
 use Rattle.mm_step.specs.Proof.{IsWithin}
 use Rattle.mm_proof.specs.Proof.{Prove}
 use Rattle.mm_step.specs.Steps.{AreNumberedMoves}
-use Rattle.mm_listing.specs.Listing.{AreLinesWith}
-use Rattle.mm_listing.specs.Uses.{AreSources, AreUses, IsRoot, IsReached, rows_of}
+use Rattle.mm_listing.specs.Uses.{AreSources, AreUses, AreLinked, IsReached, rows_of}
 use Rattle.mm_proof.specs.Verified.{OfMoves}
 use Rattle.mm_listing.specs.Mirror.CodeLines.{HasListed, MayBeListed}
 use Rattle.mm_listing.specs.Mirror.StackOrigins.{AreOriginsAt}
@@ -89,12 +88,10 @@ abbrev pub MayBeLinked : ProofSite → List (Move ℕ) → Move ℕ → Type 0
 MayBeLinked site prefix move =
     MayBeListed site prefix move × AllMeant (take site.index site.statements)
 
--- the moves prove the `$p` with the number; these are their lines, the uses of their steps, and the
--- root
+-- the moves prove the `$p` with the number, and so their steps are linked
 abbrev pub LinksProof : (limit : ℕ) → (essential : Bool) → List Sentence → (id : ℕ)
-    → List (Move ℕ) → List Line → List (List ℕ) → (root : ℕ) → Type 0
-LinksProof limit essential statements id steps lines rows root =
+    → List (Move ℕ) → List Line → List (List ℕ) → (roots : List ℕ) → Type 0
+LinksProof limit essential statements id steps lines rows roots =
     OfMoves statements id steps (λ index s moves.
     Prove (IsWithin limit) (take index statements) s moves
-    × AreLinesWith statements (take index statements) moves (λ step. not essential) lines
-    × AreUses essential (take index statements) moves rows × IsRoot moves root)
+    × AreLinked essential statements (take index statements) moves lines rows roots)

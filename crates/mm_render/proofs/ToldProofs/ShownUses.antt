@@ -3,17 +3,27 @@ use Rattle.std.proofs.Common.{◌≡◌, ℕ, zero, suc, ◌+◌, ◌<◌, List,
 use Rattle.std.proofs.Common.{get_or, slice_get, codes, decimal, Some, Bool, true, false, sym, ap}
 use Rattle.std.proofs.Common.{◌∙◌}
 use Rattle.std.proofs.Common.{arith, append_assoc, append-nil, replicate, refl, subst}
-use Rattle.std.proofs.lemmas.List.{take_more, replicate_more, length-replicate, get_or-replicate}
+use Rattle.std.proofs.lemmas.List.{take_more, take_all, replicate_more, length-replicate}
+use Rattle.std.proofs.lemmas.List.{get_or-replicate}
+use Rattle.std.proofs.lemmas.Slice.Zip.{AllZip-long}
 use Rattle.std.proofs.lemmas.Option.{slice_get_within}
 use Rattle.std.proofs.lemmas.Grind.{flat_map-append}
 use Rattle.mm_frame.specs.Sentence.{Sentence}
 use Rattle.mm_frame.specs.Numbers.{symbols_of}
+use Rattle.mm_frame.specs.Rules.{AllMeant}
+use Rattle.mm_frame.proofs.Rules.ObeyedRules.{allmeant_prefix}
 use Rattle.mm_step.specs.Stores.{numbers_in}
 use Rattle.mm_listing.specs.declared.lines.Line.{Line}
 use Rattle.mm_step.specs.Moves.{Move}
+use Rattle.mm_step.specs.Profiles.{limit_of}
+use Rattle.mm_step.specs.Proof.{IsWithin}
+use Rattle.mm_step.specs.Steps.{IsNumberedMove}
+use Rattle.mm_proof.specs.CheckedPrefix.{Pass}
+use Rattle.mm_proof.specs.ReadSteps.{ReadSteps}
 use Rattle.mm_proof.specs.Verified.{OfMoves}
+use Rattle.mm_proof.proofs.ProofVerdicts.PassedMoves.{proof_passed}
 use Rattle.mm_listing.specs.Listing.{ListedStep, TellsStep, TellsStepWith, TellSteps, AreLinesWith}
-use Rattle.mm_listing.specs.Uses.{AreUses, IsRoot}
+use Rattle.mm_listing.specs.Uses.{AreUses, AreRoots}
 use Rattle.mm_base.proofs.Lists.{get_within}
 use Rattle.mm_base.specs.Statement.{PlainStatement}
 use Rattle.mm_rules.specs.Answer.{labels_at}
@@ -21,9 +31,8 @@ use Rattle.mm_rules.specs.Verdict.{sentences}
 use Rattle.mm_render.specs.Shown.{name_text}
 use Rattle.mm_rules.specs.Shown.{symbols_text}
 use Rattle.mm_render.specs.ShownUses.{more_uses_text, uses_text, used_step_text, used_steps_text}
-use Rattle.mm_render.specs.ShownUses.{AreTold, ShowsUses}
-use Rattle.mm_verdict.specs.Mirror.Theorems.{AreStepsOf}
-use Rattle.mm_render.specs.Mirror.Theorems.{IsUsesTextOf}
+use Rattle.mm_render.specs.ShownUses.{AreTold, ShowsUses, TellsUses}
+use Rattle.mm_verdict.specs.Mirror.Theorems.{AreStepsOf, IsWholeProof}
 use Rattle.mm_rules.proofs.Numbers.{names_at}
 use Rattle.mm_verdict.proofs.Questions.AskedTheorems.{of_theorem}
 
@@ -136,62 +145,70 @@ pub one_more_flag : (n : ℕ) → replicate n true ++ true ∷ [] ≡ replicate 
 one_more_flag n = replicate_more n true
 
 -- as many flags as rows
-pub told_long : (essential : Bool) (root : ℕ) (rows : List (List ℕ)) (told : List Bool)
-    → AreTold essential root rows told → length told ≡ length rows
-told_long false root rows told is = ap length is ∙ length-replicate (length rows) true
-told_long true root rows told is = is.count
+pub told_long : (essential : Bool) (roots : List ℕ) (rows : List (List ℕ)) (told : List Bool)
+    → AreTold essential roots rows told → length told ≡ length rows
+told_long false roots rows told is = ap length is ∙ length-replicate (length rows) true
+told_long true roots rows told is = is.count
 
 -- ---- the proof of a theorem
 
 -- what the lines say of the moves
 pub uses_told : (essential : Bool) (statements before : List Sentence)
-    (moves : List (Move (List ℕ))) (lines : List Line) (rows : List (List ℕ)) (root : ℕ)
+    (moves : List (Move (List ℕ))) (lines : List Line) (rows : List (List ℕ)) (roots : List ℕ)
     (told : List Bool) (text : List ℕ)
     → AreLinesWith statements before moves (λ index. get_or told index false) lines
-    → AreUses essential before moves rows → IsRoot moves root → AreTold essential root rows told
+    → AreUses essential before moves rows → AreRoots before moves roots
+    → AreTold essential roots rows told
     → ((steps : List ListedStep)
     → TellSteps statements (λ index. get_or told index false) lines steps
     → text ≡ used_steps_text 1 steps rows told)
-    → IsUsesTextOf essential before moves text
-uses_told essential statements before moves lines rows root told text listed used rooted chosen laid =
+    → TellsUses essential before moves text
+uses_told essential statements before moves lines rows roots told text listed used rooted chosen laid =
     record {
       steps = listed.0;
       listed = listed.1;
       rows = rows;
       used = used;
-      root = root;
+      roots = roots;
       rooted = rooted;
       told = told;
       chosen = chosen;
       laid = laid listed.0 listed.2;
     }
 
+-- all moves of a whole proof pass, so many first ones
+pub whole_front : (st : List Sentence) (id : ℕ) (steps : ReadSteps) (n : ℕ) → AllMeant st
+    → IsWholeProof st id steps → n ≡ length steps.moves
+    → OfMoves st id steps.moves (λ index s moves. (take n moves ≡ moves)
+    × Pass (IsWithin (limit_of steps.profile)) (take index st) (take n moves))
+whole_front st id steps n all whole is index s moves proof numbered =
+    let Fits : List (List ℕ) → Type 0 = IsWithin (limit_of steps.profile) in
+    let before : List Sentence = take index st in
+    let long = AllZip-long (IsNumberedMove st) steps.moves moves numbered in
+    let every : take n moves ≡ moves = take_all n moves (omega (arith, is, long)) in
+    let p = proof_passed Fits before s moves (allmeant_prefix st index all)
+    (whole.1 index s moves proof numbered) in (
+      every,
+      subst (λ (ms : List (Move (List ℕ))). Pass Fits before ms) (sym every)
+          (s.symbols ∷ [], p.0, p.1),
+    )
+
 -- what is told of the moves is told of the theorem's tokens
 pub uses_shown : (essential : Bool) (ss : List Sentence) (statements : List PlainStatement)
     (label : List ℕ) (id : ℕ) (steps : List (Move ℕ)) (text : List ℕ) → ss ≡ sentences statements
     → AreStepsOf statements label id steps
-    → OfMoves ss id steps (λ index s moves. IsUsesTextOf essential (take index ss) moves text)
+    → OfMoves ss id steps (λ index s moves. TellsUses essential (take index ss) moves text)
     → ShowsUses essential statements label text
-uses_shown essential ss statements label id steps text same r holds =
-    let h = of_theorem ss statements label id steps
-    (λ before s moves. IsUsesTextOf essential before moves text) same r holds in
-    record {
-      index = r.index;
-      s = r.s;
-      there = r.there;
-      named = r.named;
-      complete = r.complete;
-      shown = record {
-        moves = r.moves;
-        said = r.told;
-        steps = h.steps;
-        listed = h.listed;
-        rows = h.rows;
-        used = h.used;
-        root = h.root;
-        rooted = h.rooted;
-        told = h.told;
-        chosen = h.chosen;
-        laid = h.laid;
-      };
-    }
+uses_shown essential ss statements label id steps text same r holds = record {
+  index = r.index;
+  s = r.s;
+  there = r.there;
+  named = r.named;
+  complete = r.complete;
+  shown = (
+    r.moves,
+    r.told,
+    of_theorem ss statements label id steps
+        (λ before s moves. TellsUses essential before moves text) same r holds,
+  );
+}

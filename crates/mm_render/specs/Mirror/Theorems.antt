@@ -1,13 +1,11 @@
 -- What the code knows of a theorem that it reads again. This file mirrors the code, and is cited by
 -- private contracts alone.
-use Rattle.std.specs.Prelude.{◌≡◌, ℕ, List, Bool}
+use Rattle.std.specs.Prelude.{◌≡◌, ℕ, List}
 use Rattle.mm_frame.specs.Sentence.{Sentence}
 use Rattle.mm_step.specs.Moves.{Move}
 use Rattle.mm_proof.specs.Parsed.{OfProof, SaySteps}
 use Rattle.mm_listing.specs.Listing.{ListedStep, AreListed}
-use Rattle.mm_listing.specs.Uses.{AreUses, IsRoot}
 use Rattle.mm_render.specs.Shown.{listing_text}
-use Rattle.mm_render.specs.ShownUses.{AreTold, used_steps_text}
 
 -- the same, where the tokens break no rule that is judged over the whole proof
 abbrev pub SayWholeSteps : List Sentence → (id : ℕ) → (tokens : List (List ℕ)) → List (Move ℕ)
@@ -19,16 +17,3 @@ SayWholeSteps statements id tokens steps =
 abbrev pub IsListingOf : (before : List Sentence) → List (Move (List ℕ)) → List ℕ → Type 0
 IsListingOf before moves text =
     (steps : List ListedStep) × AreListed before moves steps × (text ≡ listing_text steps)
-
--- the text tells what the steps of the moves use
-pub record IsUsesTextOf (essential : Bool) (before : List Sentence) (moves : List (Move (List ℕ)))
-    (text : List ℕ) : Type 0 where
-  pub steps : List ListedStep
-  pub listed : AreListed before moves steps
-  pub rows : List (List ℕ)
-  pub used : AreUses essential before moves rows
-  pub root : ℕ
-  pub rooted : IsRoot moves root
-  pub told : List Bool
-  pub chosen : AreTold essential root rows told
-  pub laid : text ≡ used_steps_text 1 steps rows told

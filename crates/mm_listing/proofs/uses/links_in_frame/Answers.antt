@@ -1,16 +1,16 @@
 use Rattle.std.proofs.Common.{rules, ◌≡◌, ◌+◌, length, Err, ap, subst, ◌∙◌, vec_len, not, ◌||◌}
-use Rattle.std.proofs.Common.{get_or, [], false}
+use Rattle.std.proofs.Common.{get_or, [], false, take}
 use Rattle.std.proofs.lemmas.Result.{err_from_is_err_and}
 use Rattle.mm_frame.proofs.Names.LabelNumbers.{numbered_unique}
-use Rattle.mm_listing.specs.Uses.{rows_of}
+use Rattle.mm_listing.specs.Uses.{AreRoots, rows_of}
 use Rattle.mm_proof.specs.Mirror.CodeSteps.{code_moves}
 use Rattle.mm_step.specs.Mirror.Sites.{CodeSite}
-use Rattle.mm_listing.specs.Mirror.StepUses.{AreUsesAt}
+use Rattle.mm_listing.specs.Mirror.StepUses.{AreUsesAt, sources_of}
 use Rattle.mm_proof.proofs.ProofVerdicts.JudgedMoves.{wrong_end, wrong_move, on_rule_from}
 use Rattle.mm_listing.proofs.Machines.ListedEnd.{lists_end}
 use Rattle.mm_listing.proofs.Machines.ToldLines.{lines_unless}
 use Rattle.mm_listing.proofs.Machines.ProofHalts.{meant_before, made_before}
-use Rattle.mm_listing.proofs.Machines.StepUses.{some_source, rows_long, root_of}
+use Rattle.mm_listing.proofs.Machines.StepUses.{made_among, rows_long, roots_at}
 use Rattle.mm_listing.proofs.uses.links_in_frame.Goals as goal
 
 pub link_codes-requires-clause-meant : goal.link_codes-requires-clause-meant
@@ -50,12 +50,12 @@ returns-in_err-ending-clause-fault g c =
     (let told = c.ending.ensures.fault rule at (c.in_err-ending.was ∙ ap Err is) in
     (told.0 ∙ ap (λ n. n + 1) (c.len.ensures ∙ long), told.1))))
 
-pub used_steps-requires-clause-some : goal.used_steps-requires-clause-some
-used_steps-requires-clause-some g c =
+pub used_steps-requires-clause-among : goal.used_steps-requires-clause-among
+used_steps-requires-clause-among g c =
     let site = c.args.table.now.site in
-    some_source site.limit site.statements site.index _ c.in_ok-links.links.sources.items
+    made_among site.limit site.statements site.index _ c.in_ok-links.links.sources.items
     c.in_ok-links.ensures.sources.0 (c.requires.steps.moves, c.requires.steps.numbered) _
-    c.in_ok-links.links.origins.items _ c.in_ok-links.ensures.origins c.in_ok-ending.ensures.ok
+    c.in_ok-links.links.origins.items c.in_ok-links.ensures.origins
 
 pub used_steps-requires-clause-long : goal.used_steps-requires-clause-long
 used_steps-requires-clause-long g c =
@@ -85,10 +85,13 @@ returns-clause-linked g c index s moves proof numbered =
     let uses = subst (λ p. AreUsesAt c.args.essential site.statements p
     (code_moves c.args.table.now.ids c.args.codes.now) (rows_of c.in_ok-links.links.uses.items))
     here c.in_ok-links.ensures.uses.0 in
-    rw (c.used_steps.ensures.lines, c.used_steps.ensures.uses) (
+    let rooted = subst (λ p. AreRoots (take p site.statements) moves
+    (sources_of c.in_ok-links.links.sources.items c.in_ok-links.links.origins.items)) here
+    (roots_at site.limit site.statements site.index _ _ _ _ c.in_ok-links.links.origins.items
+    c.in_ok-links.links.sources.items c.in_ok-links.ensures.run c.in_ok-links.ensures.origins
+    c.in_ok-links.ensures.sources.0 moves numbered) in
+    let used = c.in_ok-used_steps.ensures in
+    rw (used.0, used.1, used.2) (
       l.0,
-      lines_unless c.args.essential _ _ moves _ l.1,
-      uses moves numbered,
-      root_of moves c.in_ok-links.links.sources.items _
-          (c.in_ok-links.ensures.sources.0 moves numbered) c.used_steps.ensures.root,
+      (lines_unless c.args.essential _ _ moves _ l.1, uses moves numbered, rooted),
     )

@@ -12,7 +12,7 @@ returns-clause-used c =
     let l = h index s moves proof (subst (λ l. AreNumberedMoves c.args.book.now.statements l moves)
     (held_moves _ _ _ _ _ c.deref.ensures.value c.deref-2.ensures.value
     (seen_moves c.steps.view_is)) numbered) in
-    (l.1, l.2, l.3)) (rw (seen_limit c.steps.view_is) at c.links_of_proof.ensures.linked)
+    l.1) (rw (seen_limit c.steps.view_is) at c.links_of_proof.ensures.linked)
 
 pub returns-clause-fault : goal.returns-clause-fault
 returns-clause-fault c rule step is index s moves proof numbered =

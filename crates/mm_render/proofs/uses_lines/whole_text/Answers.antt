@@ -1,7 +1,9 @@
 -- The lines tell the steps, all with their expressions, and the rows what they use.
-use Rattle.std.proofs.Common.{rules, ◌≡◌, List, length, vec_len, get_or, replicate, true, false, subst}
+use Rattle.std.proofs.Common.{rules, ◌≡◌, List, length, take, vec_len, get_or, replicate, true, false}
+use Rattle.std.proofs.Common.{subst}
 use Rattle.std.proofs.Common.{sym, ap, arith, ◌∙◌, Bool}
 use Rattle.std.proofs.lemmas.List.{length-map, length-replicate}
+use Rattle.std.proofs.lemmas.Result.{IfOk-weaker}
 use Rattle.mm_listing.specs.declared.lines.Line.{Line}
 use Rattle.mm_listing.specs.Listing.{ListedStep, TellSteps}
 use Rattle.mm_listing.specs.Uses.{rows_of}
@@ -12,7 +14,7 @@ use Rattle.mm_render.proofs.uses_lines.whole_text.Goals as goal
 -- as many flags as lines
 many : (c : In_ok-told) → length c.in_ok-used.used.lines.items ≡ c.len.result
 many c =
-    let a = c.requires.0 in
+    let a = c.requires.steps in
     let used = c.in_ok-used.used in
     let u = c.in_ok-used.ensures.used a.index a.s a.moves a.proof a.numbered in
     let rows : length (rows_of used.uses.items) ≡ length used.uses.items =
@@ -33,7 +35,7 @@ flags_told c steps tells =
 
 pub text_of-requires-clause-lines : goal.text_of-requires-clause-lines
 text_of-requires-clause-lines c =
-    let a = c.requires.0 in
+    let a = c.requires.steps in
     let u = c.in_ok-used.ensures.used a.index a.s a.moves a.proof a.numbered in (
       u.0.0,
       rw (c.deref.ensures.value, c.deref-3.ensures.value)
@@ -64,8 +66,10 @@ text_of-requires-clause-told c =
       ap length c.deref-3.ensures.value,
     )
 
-pub returns-clause-text : goal.returns-clause-text
-returns-clause-text c index s moves proof numbered =
+pub returns : goal.returns
+returns c =
+    IfOk-weaker c.text_of.result _ _
+    (λ text laid index s moves proof numbered.
     let used = c.in_ok-used.used in
     let st = c.args.book.now.statements in
     let told : List Bool = c.in_ok-told.told.items in
@@ -75,8 +79,10 @@ returns-clause-text c index s moves proof numbered =
     let long : vec_len used.uses ≡ length used.uses.items = search rules in
     let count : c.len.result ≡ length (rows_of used.uses.items) =
     c.len.ensures ∙ long ∙ sym rows in
-    uses_told false st _ moves used.lines.items (rows_of used.uses.items) used.root told _
-    (u.0.0, u.0.1, flags_told (goal.at.returns-clause-text c).In_ok-told u.0.0 u.0.2) u.1 u.2
+    uses_told false st _ (take c.args.passed moves) used.lines.items (rows_of used.uses.items)
+    used.roots.items told text.items
+    (u.0.0, u.0.1, flags_told (goal.at.returns c).In_ok-told u.0.0 u.0.2) u.1 u.2
     (c.in_ok-told.ensures ∙ ap (λ n. replicate n true) count)
+    laid)
     (rw (c.deref.ensures.value, c.deref-2.ensures.value, c.deref-3.ensures.value) at
-    c.in_ok-text_of.ensures)
+    c.text_of.ensures)

@@ -4,10 +4,10 @@ use Rattle.std.proofs.lemmas.Bool.{false≢true}
 use Rattle.std.proofs.lemmas.List.{length-map}
 use Rattle.std.proofs.lemmas.Option.{slice_get_read, none-some}
 use Rattle.mm_listing.specs.Uses.{rows_of}
-use Rattle.mm_listing.proofs.Machines.ReachedSteps.{HasReached, reached_root, reached_skipped}
+use Rattle.mm_listing.proofs.Machines.ReachedSteps.{HasReached, reached_roots, reached_skipped}
 use Rattle.mm_listing.proofs.Machines.ReachedSteps.{reached_more, reached_all, row_there, row_among}
 use Rattle.mm_listing.proofs.Machines.ReachedSteps.{flag_read}
-use Rattle.mm_listing.proofs.uses.UsedSteps.reached.Goals.{After-deref}
+use Rattle.mm_listing.proofs.uses.UsedSteps.reached.Goals.{After-deref-then-index}
 use Rattle.mm_listing.proofs.uses.UsedSteps.reached.Goals as goal
 
 pub loop-index-init : goal.loop-index-init
@@ -18,17 +18,17 @@ loop-index-init c =
     length-map uses.items (λ l. l.items) in
     let all : length (rows_of uses.items) ≡ c.len-index.result =
     rows ∙ sym long ∙ sym c.len-index.ensures in
-    subst (HasReached c.args.self.now.root (rows_of uses.items) _) all
-    (reached_root c.args.self.now.root (rows_of uses.items) c.args.self.now.earlier
-    c.unmark.new.marks.items _
+    let roots = c.args.self.now.roots.items in
+    subst (HasReached roots (rows_of uses.items) _) all
+    (reached_roots roots (rows_of uses.items) c.args.self.now.earlier c.unmark.new.marks.items _
     (c.in_ok-unmark.ensures.long ∙ c.len.ensures ∙ long ∙ sym rows)
     (λ index is. let m = (c.in_ok-unmark.ensures.none []).named index is in
     absurd (none-some _ m.3))
-    (c.args.self.now.rooted.0, omega (arith, c.args.self.now.rooted.1, rows)) refl)
+    (rw c.deref.ensures.value at c.reach.ensures))
 
 pub loop-index-preserved : goal.loop-index-preserved
 loop-index-preserved c =
-    let root = c.args.self.now.root in
+    let roots = c.args.self.now.roots.items in
     let uses = c.args.self.now.uses in
     let rows = rows_of uses.items in
     let flags = c.loop-index.reached.items in
@@ -46,14 +46,14 @@ loop-index-preserved c =
       c.loop-index.auto.index,
     ) in
     let read = flag_read flags index c.index.result.now within c.index.ensures in
-    reached_skipped root rows c.args.self.now.earlier flags index
-    (subst (HasReached root rows flags) next c.loop-index.invariant)
+    reached_skipped roots rows c.args.self.now.earlier flags index
+    (subst (HasReached roots rows flags) next c.loop-index.invariant)
     (λ is. false≢true (sym c.if-index.false ∙ sym read ∙ is))
 
 -- the row that is at hand
-row : (c : After-deref)
+row : (c : After-deref-then-index)
     → slice_get (rows_of c.args.self.now.uses.items) (c.loop-index.index - 1)
-    ≡ Some c.deref.result.now
+    ≡ Some c.deref-then-index.result.now
 row c =
     let uses = c.args.self.now.uses in
     let long : vec_len uses ≡ length uses.items = search rules in
@@ -66,17 +66,17 @@ row c =
     ) in
     row_there uses.items (c.loop-index.index - 1) c.index-then-index.result.now
     (slice_get_read uses.items _ (c.loop-index.index - 1) _ refl within c.index-then-index.ensures)
-    ∙ ap (λ (l : List ℕ). Some l) (sym c.deref.ensures.value)
+    ∙ ap (λ (l : List ℕ). Some l) (sym c.deref-then-index.ensures.value)
 
-pub reach-requires : goal.reach-requires
-reach-requires c =
+pub reach-requires-then-index : goal.reach-requires-then-index
+reach-requires-then-index c =
     let flags = c.loop-index.reached.items in
     row_among (rows_of c.args.self.now.uses.items) flags (c.loop-index.index - 1)
-    c.deref.result.now c.args.self.now.earlier c.loop-index.invariant.count (row c)
+    c.deref-then-index.result.now c.args.self.now.earlier c.loop-index.invariant.count (row c)
 
 pub loop-index-preserved-then-index : goal.loop-index-preserved-then-index
 loop-index-preserved-then-index c =
-    let root = c.args.self.now.root in
+    let roots = c.args.self.now.roots.items in
     let uses = c.args.self.now.uses in
     let rows = rows_of uses.items in
     let flags = c.loop-index.reached.items in
@@ -94,15 +94,15 @@ loop-index-preserved-then-index c =
       c.loop-index.auto.index,
     ) in
     let read = flag_read flags index c.index.result.now within c.index.ensures in
-    reached_more root rows c.args.self.now.earlier flags c.reach.new.reached.items index
-    c.deref.result.now (subst (HasReached root rows flags) next c.loop-index.invariant)
-    (read ∙ c.if-index.true) (row (goal.at.loop-index-preserved-then-index c).After-deref)
-    c.reach.ensures
+    reached_more roots rows c.args.self.now.earlier flags c.reach-then-index.new.reached.items index
+    c.deref-then-index.result.now (subst (HasReached roots rows flags) next c.loop-index.invariant)
+    (read ∙ c.if-index.true) (row (goal.at.loop-index-preserved-then-index c).After-deref-then-index)
+    c.reach-then-index.ensures
 
 pub returns : goal.returns
 returns c =
-    let root = c.args.self.now.root in
+    let roots = c.args.self.now.roots.items in
     let rows = rows_of c.args.self.now.uses.items in
     let at : c.loop-index.index ≡ 0 = omega (arith, c.loop-index-test.false) in
-    reached_all root rows c.args.self.now.earlier c.loop-index.reached.items
-    (subst (HasReached root rows c.loop-index.reached.items) at c.loop-index.invariant)
+    reached_all roots rows c.args.self.now.earlier c.loop-index.reached.items
+    (subst (HasReached roots rows c.loop-index.reached.items) at c.loop-index.invariant)
