@@ -277,6 +277,12 @@ told() {
     fi
 }
 told 1 why faults.mm
+ends 1 'faults.mm:3:15: P14: the proof proves something else than is stated, in the proof of p, at step 2\n  | p $p b $= one $.\n  |               ^\n  it states\n    b\n  but step 1, one at 3:11, gives\n    a\n  they differ at symbol 1: a where b is asked\nfaults.mm:5:11: P2: no earlier statement has the label, in the proof of r\n  | r $p a $= nope $.\n  |           ^\n  token: nope\n  near: one\n2 faults\n' '' \
+    why --source faults.mm
+printf '${\n\t$c\ta $.\r\n' >tabs.mm
+ends 1 'tabs.mm:2:2: M1: a $c stands in a block\n  | \t$c\ta $.\n  | \t^\n  token: $c\ntabs.mm:1:1: the block is opened here, and not closed\n  | ${\n  | ^\n1 fault\n' '' \
+    why --strict --source tabs.mm
+ends 1 'tabs.mm:2:2: M1: a $c stands in a block\n  token: $c\ntabs.mm:1:1: the block is opened here, and not closed\n1 fault\n' '' why tabs.mm
 ends 0 'yes 3 statements 1 proofs\n' '' why loose.mm
 ends 3 'incomplete 1\nq\n' '' why open.mm
 ends 4 'load F2\n' '' why first.mm first.mm
@@ -506,6 +512,9 @@ misused axioms --strict th first.mm
 misused check --strict
 misused faults
 misused why
+misused why --source
+misused check --source first.mm
+misused faults --source first.mm
 misused users
 misused users th
 misused try

@@ -93,14 +93,14 @@ IsFaultsReply profile files text status =
     × (text ≡ refusals_text files (first ∷ others)) × (status ≡ refusal_status first.rule))
 
 -- This is the text and the status of the reply to `why` in the profile: where `check` tells no
--- refusal, those of its reply; else what tells all faults and explains them, and the status of the
--- first.
-abbrev pub IsWhyReply : Profile → List PlainFile → List ℕ → ℕ → Type 0
-IsWhyReply profile files text status =
+-- refusal, those of its reply; else what tells all faults and explains them, if so it is said with
+-- lines of the files, and the status of the first.
+abbrev pub IsWhyReply : (source : Bool) → Profile → List PlainFile → List ℕ → ℕ → Type 0
+IsWhyReply source profile files text status =
     ((verdict : Verdict) × HasVerdict profile files verdict × (refusal_in verdict ≡ None)
     × (text ≡ text_of files verdict) × (status ≡ status_of verdict))
     ⊎ ((first : PlainRefusal) × (others : List PlainRefusal)
-    × HaveFaults profile files (first ∷ others) × TellsFaults profile files (first ∷ others) text
+    × HaveFaults profile files (first ∷ others) × TellsFaults profile source files (first ∷ others) text
     × (status ≡ refusal_status first.rule))
 
 -- ---- questions
@@ -422,7 +422,7 @@ AsksHanded files command = Unit {0}
 abbrev pub IsWholeReply : WholeQuestion → Profile → List PlainFile → List ℕ → ℕ → Type 0
 IsWholeReply Check profile files text status = IsReply profile files text status
 IsWholeReply Faults profile files text status = IsFaultsReply profile files text status
-IsWholeReply Why profile files text status = IsWhyReply profile files text status
+IsWholeReply (Why source) profile files text status = IsWhyReply source profile files text status
 IsWholeReply (AllAxioms essential) profile files text status =
     IsQuestionReply profile files (IsListAnswer (ListsAxioms essential) profile files) text status
 IsWholeReply AllShorter profile files text status =

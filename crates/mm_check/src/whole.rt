@@ -94,17 +94,18 @@ fn faults_reply(
     reply
 }
 
-/// The reply to `why` under a profile.
+/// The reply to `why` under a profile, if so it is said with lines of the files.
 fn why_reply(
     alloc: Global,
     seed: Seed,
     profile: Profile,
     files: &[File],
+    source: bool,
 ) -> Result<Reply, AllocError>
-    ensures { IfOk result (λ reply. IsWhyReply profile (map plain_file files.now)
+    ensures { IfOk result (λ reply. IsWhyReply source profile (map plain_file files.now)
         reply.text.items (number_of reply.status)) }
 {
-    match explained(alloc, seed, profile, files) {
+    match explained(alloc, seed, profile, files, source) {
         Ok(checked) => accepted_reply(alloc, files, &checked),
         Err(Unaccepted::Load(rule)) => fault_reply(alloc, files, &CheckFault::Load(rule)),
         Err(Unaccepted::Refused { text, status }) => Ok(Reply { text, status }),
@@ -127,7 +128,7 @@ pub(crate) fn whole_reply<W: SearchWatch>(
     match question {
         WholeQuestion::Check => checked_reply(alloc, seed, profile, files, Asked::Verdict, watch),
         WholeQuestion::Faults => faults_reply(alloc, seed, profile, files),
-        WholeQuestion::Why => why_reply(alloc, seed, profile, files),
+        WholeQuestion::Why { source } => why_reply(alloc, seed, profile, files, source),
         WholeQuestion::Axioms { essential } => {
             let asked = Asked::Axioms { essential };
             checked_reply(alloc, seed, profile, files, asked, watch)

@@ -1,5 +1,5 @@
 -- The facts that explain a fault of a rule of meaning, joined from what was read again.
-use Rattle.std.proofs.Common.{◌≡◌, ◌≢◌, ℕ, ◌+◌, List, [], ◌∷◌, length, Option}
+use Rattle.std.proofs.Common.{◌≡◌, ◌≢◌, ℕ, ◌+◌, List, [], ◌∷◌, length, Bool, Option}
 use Rattle.std.proofs.Common.{option_map, refl, sym, ap, subst, ◌∙◌, arith}
 use Rattle.std.specs.List.{flat_map}
 use Rattle.std.specs.Option.{option_or}
@@ -14,9 +14,9 @@ use Rattle.mm_frame.specs.Breaking.{BreaksAt}
 use Rattle.mm_frame.specs.Sentence.{sentence_of}
 use Rattle.mm_explain.specs.declared.semantic_error.SemanticError.{SemanticError}
 use Rattle.mm_rules.specs.declared.rule.Rule.TheVariants as rules
-use Rattle.mm_facts.specs.Explained.{Detail, token_at_fault, block_opened}
+use Rattle.mm_facts.specs.Explained.{Detail, token_at_fault}
 use Rattle.mm_explain.specs.MeaningFacts.{AreEarlierFacts, AreMeaningFacts, token_at}
-use Rattle.mm_rules.specs.Places.{token_place}
+use Rattle.mm_explain.specs.Source.{opened_block}
 use Rattle.mm_explain.specs.MeaningFacts.{last_looked_at, last_met, looked_at, looked_at_within}
 use Rattle.mm_explain.specs.MeaningFacts.{met_facts}
 use Rattle.mm_explain.specs.Mirror.SemanticErrors.{IsSemanticError, IsBroken, IsStopped, Site}
@@ -61,14 +61,14 @@ module _ {files : List PlainFile} {refusal : PlainRefusal} (stop : IsStopped fil
   }
 
   -- what is known of the error explains the refusal
-  pub facts_told : (error : SemanticError) (token : PlainToken) (earlier : List Detail)
+  pub facts_told : (source : Bool) (error : SemanticError) (token : PlainToken) (earlier : List Detail)
       → IsSemanticError files error → error.before + 1 ≡ refusal.statement
       → refusal.rule ≡ rules.Meaning error.rule
       → token ≡ token_at (plain_statement error.statement) error.index
       → ((site : Site files error.before)
-      → AreEarlierFacts files error.rule site.before site.s error.index earlier)
-      → AreMeaningFacts files refusal token.at (token_at_fault token.text ∷ earlier)
-  facts_told error token earlier known counted is at_fault met =
+      → AreEarlierFacts source files error.rule site.before site.s error.index earlier)
+      → AreMeaningFacts source files refusal token.at (token_at_fault token.text ∷ earlier)
+  facts_told source error token earlier known counted is at_fault met =
       let site : Site files error.before = stop_site error.before counted in
       let rule : error.rule ≡ stop.refused.rule = sym (same_rule error.rule is) in
       let here : token ≡ token_at stop.s error.index =
@@ -84,19 +84,19 @@ module _ {files : List PlainFile} {refusal : PlainRefusal} (stop : IsStopped fil
         breaks = subst (λ (r : MeaningRule). BreaksAt r (sentences stop.before) (sentence_of stop.s) error.index) rule (known.breaks site);
         place = ap (λ (t : PlainToken). t.at) here;
         earlier = earlier;
-        met = subst (λ (r : MeaningRule). AreEarlierFacts files r stop.before stop.s error.index earlier) rule (met site);
+        met = subst (λ (r : MeaningRule). AreEarlierFacts source files r stop.before stop.s error.index earlier) rule (met site);
         told = ap (λ (t : PlainToken). token_at_fault t.text ∷ earlier) here;
       }
 
 -- ---- facts on what came before
 
 -- what isn't of blocks is of names
-pub of_names : (files : List PlainFile) (rule : MeaningRule) (before : List PlainStatement)
-    (s : PlainStatement) (index : Option ℕ) (details : List Detail) → rule ≢ M1
+pub of_names : (source : Bool) (files : List PlainFile) (rule : MeaningRule)
+    (before : List PlainStatement) (s : PlainStatement) (index : Option ℕ) (details : List Detail) → rule ≢ M1
     → details ≡ met_facts files rule (last_looked_at rule before s index (token_at s index).text)
-    → AreEarlierFacts files rule before s index details
-of_names files M1 before s index details not_m1 is = absurd (not_m1 refl)
-of_names files rule before s index details not_m1 is = is
+    → AreEarlierFacts source files rule before s index details
+of_names source files M1 before s index details not_m1 is = absurd (not_m1 refl)
+of_names source files rule before s index details not_m1 is = is
 
 -- where the statement itself has the name, it was met last there
 pub met_there : (rule : MeaningRule) (before : List PlainStatement) (s : PlainStatement)
@@ -110,12 +110,12 @@ met_there rule before s index name own earlier here there =
     ∙ sym (met-append name (flat_map (looked_at rule) before) (looked_at_within rule s index))
 
 -- the block at the position is opened there
-pub block_there : (files : List PlainFile) (before : List PlainStatement) (s : PlainStatement)
-    (index : Option ℕ) (t : PlainToken)
+pub block_there : (source : Bool) (files : List PlainFile) (before : List PlainStatement)
+    (s : PlainStatement) (index : Option ℕ) (t : PlainToken)
     → (outer : List PlainStatement) × (opening : PlainStatement) × IsInnermost before outer opening
     × (t.file ≡ opening.first.file) × (t.at ≡ opening.first.at)
-    → AreEarlierFacts files M1 before s index (block_opened (token_place files t) ∷ [])
-block_there files before s index t (outer, opening, inner, file, at) =
+    → AreEarlierFacts source files M1 before s index (opened_block source files t ∷ [])
+block_there source files before s index t (outer, opening, inner, file, at) =
     (outer, opening, inner, rw (file, at) refl)
 
 -- where the name of the token at fault was met last, by what was found of it

@@ -33,7 +33,7 @@ use Rattle.mm_rules.specs.Verdict.{PlainRefusal, sentences, proof_of, IsProofFau
 use Rattle.mm_rules.specs.Answer.{plain_refusal}
 use Rattle.mm_explain.specs.Why.{IsExplanation, IsLastExplanation, TellsFaults}
 use Rattle.mm_verdict.specs.Why.{is_of_proofs}
-use Rattle.mm_explain.specs.Why.{most_explained, head_text}
+use Rattle.mm_explain.specs.Why.{most_explained, head_lines}
 use Rattle.mm_facts.specs.Why.{IsFaultPlace}
 use Rattle.mm_explain.specs.Why.{listing_words, more_text, count_text}
 use Rattle.mm_facts.specs.Explained.{IsTokensFault, Detail, AreDetails, detail_text, details_text}
@@ -242,7 +242,7 @@ module _ {profile : Profile} {files : List PlainFile} {told : List Sentence} {s 
           (tokens_fault profile (sentences r.before) s r.refused.rule r.refused.step
           r.refused.fault)
 
-      pub explained_there : (tokens : List (List ℕ)) → tokens ≡ proof_of s
+      pub explained_there : (source : Bool) (tokens : List (List ℕ)) → tokens ≡ proof_of s
           → (placed : List PlainToken) → placed ≡ s.proof → (rule : ProofRule) (step : ℕ) → rules.Proof rule ≡ refusal.rule → step ≡ refusal.step
           → (place : ℕ)
           → IsFaultPlace profile (take (length (sentences r.before)) told) s rule step place
@@ -254,9 +254,9 @@ module _ {profile : Profile} {files : List PlainFile} {told : List Sentence} {s 
           → AreUnused (take (length (sentences r.before)) told) (sentence_of s) tokens step unused
           → (label : Option (List ℕ))
           → IsUnknownIn (take (length (sentences r.before)) told) tokens rule label
-          → IsExplainedBut profile files told s refusal label
-          (head_text files place refusal ++ details_text (details ++ places) ++ unused_text unused)
-      explained_there tokens same placed own rule step one at place stands details facts places
+          → IsExplainedBut profile source files told s refusal label
+          (head_lines source files place refusal ++ details_text (details ++ places) ++ unused_text unused)
+      explained_there source tokens same placed own rule step one at place stands details facts places
           stand unused by_none label unknown =
           let told_rule : rules.Proof rule ≡ rules.Proof r.refused.rule =
           one ∙ ap (λ (x : PlainRefusal). x.rule) r.refused.refused in
@@ -292,12 +292,12 @@ module _ {profile : Profile} {files : List PlainFile} {told : List Sentence} {s 
           )
 
 -- the label that is stated further down is told behind it
-pub explained_later : {profile : Profile} {files : List PlainFile} {told : List Sentence}
-    {s : PlainStatement} {refusal : PlainRefusal} (label : Option (List ℕ)) (text : List ℕ)
-    (b : IsExplainedBut profile files told s refusal label text) (old middle new : List ℕ)
+pub explained_later : {profile : Profile} {source : Bool} {files : List PlainFile}
+    {told : List Sentence} {s : PlainStatement} {refusal : PlainRefusal} (label : Option (List ℕ)) (text : List ℕ)
+    (b : IsExplainedBut profile source files told s refusal label text) (old middle new : List ℕ)
     → middle ≡ old ++ text
     → new ≡ middle ++ details_text (stated_later files label b.0.after)
-    → (whole : List ℕ) × IsExplanation profile files refusal whole × (new ≡ old ++ whole)
+    → (whole : List ℕ) × IsExplanation profile source files refusal whole × (new ≡ old ++ whole)
 explained_later {files} label text (r, explains) old middle new first put =
     let later : List ℕ = details_text (stated_later files label r.after) in (
       text ++ later,
@@ -323,14 +323,14 @@ refused_last profile files taken listed told s refusal met = record {
 }
 
 -- one more is explained, or kept without
-explained_more : (profile : Profile) (files : List PlainFile) (listed : List PlainRefusal)
-    (one : PlainRefusal) (old new : List ℕ) → is_of_proofs one.rule ≡ true
+explained_more : (profile : Profile) (source : Bool) (files : List PlainFile)
+    (listed : List PlainRefusal) (one : PlainRefusal) (old new : List ℕ) → is_of_proofs one.rule ≡ true
     → (length listed < most_explained
-    → (text : List ℕ) × IsExplanation profile files one text × (new ≡ old ++ text))
+    → (text : List ℕ) × IsExplanation profile source files one text × (new ≡ old ++ text))
     → (most_explained ≤ length listed → new ≡ old)
-    → AreExplained profile files listed old
-    → AreExplained profile files (listed ++ one ∷ []) new
-explained_more profile files listed one old new proof few many explained =
+    → AreExplained profile source files listed old
+    → AreExplained profile source files (listed ++ one ∷ []) new
+explained_more profile source files listed one old new proof few many explained =
     let proofs = all_push (λ (r : PlainRefusal). is_of_proofs r.rule ≡ true) listed one
     explained.proofs proof in
     elim (cases_lt (length listed) most_explained) [
@@ -343,7 +343,7 @@ explained_more profile files listed one old new proof few many explained =
           record {
             proofs = proofs;
             explanations = explained.explanations ++ text ∷ [];
-            each = rw whole (zip_push (IsExplanation profile files) listed explained.explanations
+            each = rw whole (zip_push (IsExplanation profile source files) listed explained.explanations
                 one text each explains);
             said = rw (
               put,
@@ -372,14 +372,15 @@ noted profile files first old new taken listed told s refusal met notes seen =
     sym (length-map old.refusals.items plain_refusal) ∙ ap length seen.kept in
     record {
       same_profile = notes.same_profile ∙ seen.same_profile;
+      same_source = notes.same_source ∙ seen.same_source;
       same_files = ap (λ (fs : Bor (List File)). map plain_file fs.now) notes.same_files
           ∙ seen.same_files;
       kept = ap (map plain_refusal) notes.kept
           ∙ map-append plain_refusal old.refusals.items (refusal ∷ [])
           ∙ ap (λ (rs : List PlainRefusal). rs ++ plain_refusal refusal ∷ []) seen.kept;
-      explained = explained_more profile files listed (plain_refusal refusal) old.text.items
+      explained = explained_more profile first.source files listed (plain_refusal refusal) old.text.items
           new.text.items (ap (λ (r : PlainRefusal). is_of_proofs r.rule) met.came.refused)
-          (λ short. rw (seen.same_profile, seen.same_files)
+          (λ short. rw (seen.same_profile, seen.same_source, seen.same_files)
           at (notes.few (omega (arith, many, short))))
           (λ long. ap (λ t. t.items) (notes.many (omega (arith, many, long)))) seen.explained;
       labels = rw seen.same_files at notes.labels;
@@ -396,6 +397,7 @@ passed_over profile files first now taken listed s (Faulty refusal) sound seen =
 passed_over profile files first now taken listed s judged sound seen =
     rw (append-nil listed) (record {
       same_profile = seen.same_profile;
+      same_source = seen.same_source;
       same_files = seen.same_files;
       kept = seen.kept;
       explained = seen.explained;
@@ -421,18 +423,18 @@ of_others (r ∷ rs) all =
     let (none, some) = of_others rs all.1 in
     (rw all.0 none, rw all.0 (ap (λ (l : List PlainRefusal). r ∷ l) some))
 
-module _ (profile : Profile) (files : List PlainFile) (listed : List PlainRefusal)
+module _ (profile : Profile) (source : Bool) (files : List PlainFile) (listed : List PlainRefusal)
     (refusals ends : List Refusal) (text₀ text₁ text₂ text : List ℕ) (status : ℕ)
     (faults : HaveFaults profile files (listed ++ map plain_refusal ends))
     (kept : map plain_refusal refusals ≡ listed)
-    (explained : AreExplained profile files listed text₀)
+    (explained : AreExplained profile source files listed text₀)
     (others : AllByRecursion (λ r. is_of_proofs r.rule ≡ false) (map plain_refusal ends))
     (put₁ : text₁ ≡ text₀ ++ more_text profile (length refusals - most_explained))
-    (told : List (List ℕ)) (ended : AllZip (IsLastExplanation files) (map plain_refusal ends) told)
+    (told : List (List ℕ)) (ended : AllZip (IsLastExplanation source files) (map plain_refusal ends) told)
     (put₂ : text₂ ≡ flat_map (λ t. t) told ++ text₁) where
   tells : (count : ℕ) → count ≡ length (listed ++ map plain_refusal ends)
       → text ≡ text₂ ++ count_text count
-      → TellsFaults profile files (listed ++ map plain_refusal ends) text
+      → TellsFaults profile source files (listed ++ map plain_refusal ends) text
   tells count counted put =
       let E : List PlainRefusal = map plain_refusal ends in
       let (all, none) = of_proofs listed explained.proofs in
@@ -457,7 +459,7 @@ module _ (profile : Profile) (files : List PlainFile) (listed : List PlainRefusa
       → ((first : Refusal) (more : List Refusal) → all ≡ first ∷ more
       → status ≡ refusal_status first.rule)
       → (first : PlainRefusal) × (more : List PlainRefusal)
-      × HaveFaults profile files (first ∷ more) × TellsFaults profile files (first ∷ more) text
+      × HaveFaults profile files (first ∷ more) × TellsFaults profile source files (first ∷ more) text
       × (status ≡ refusal_status first.rule)
   tells_why [] same some put ends = absurd (omega arith)
   tells_why (first ∷ more) same some put ended =
@@ -469,6 +471,6 @@ module _ (profile : Profile) (files : List PlainFile) (listed : List PlainRefusa
         plain_refusal first,
         map plain_refusal more,
         subst (HaveFaults profile files) same_all faults,
-        subst (λ rs. TellsFaults profile files rs text) same_all (tells _ counted put),
+        subst (λ rs. TellsFaults profile source files rs text) same_all (tells _ counted put),
         ended first more refl,
       )

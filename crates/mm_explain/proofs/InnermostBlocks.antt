@@ -1,6 +1,6 @@
 -- Where the innermost open block begins, as statements are read one by one.
 use Rattle.std.proofs.Common.{◌≡◌, ℕ, ◌+◌, List, [], ◌∷◌, ◌++◌, map, take, drop}
-use Rattle.std.proofs.Common.{length, true, refl, sym, ap, ◌∙◌, arith}
+use Rattle.std.proofs.Common.{length, Bool, true, refl, sym, ap, ◌∙◌, arith}
 use Rattle.std.proofs.Common.{reverse, append_assoc, append-nil, Option, Some, None, inl, inr}
 use Rattle.std.specs.Prelude.{MatchOption, option_map}
 use Rattle.std.specs.Option.{option_to_list}
@@ -167,11 +167,12 @@ open_block_there statements blocks rest (Some t) balanced are is =
     ∙ ap (λ (ts : List Token). map position_of (reverse ts)) is ∙ block_pushed rest t)
 
 -- what is told of it
-pub opened_there : (files : List PlainFile) (statements : List PlainStatement)
+pub opened_there : (source : Bool) (files : List PlainFile) (statements : List PlainStatement)
     (block : Option Token) → IsOpenBlock statements block
-    → AreBlocksOpened files statements (blocks_opened files (option_map plain_token block))
-opened_there files statements None closed = inl (closed, refl)
-opened_there files statements (Some t) (outer, opening, inner, file, at) =
+    → AreBlocksOpened source files statements
+    (blocks_opened source files (option_map plain_token block))
+opened_there source files statements None closed = inl (closed, refl)
+opened_there source files statements (Some t) (outer, opening, inner, file, at) =
     inr (outer, opening, inner, rw (file, at) refl)
 
 -- what is taken off the end of the blocks

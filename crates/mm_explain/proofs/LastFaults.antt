@@ -138,18 +138,18 @@ last_closing so_far s false is =
 -- ==== the facts
 
 -- what tells the origins of any fault that the files are refused for with this refusal
-abbrev pub TellsAll : List PlainFile → PlainRefusal → (old new : List ℕ) → Type 0
-TellsAll files refusal old new =
+abbrev pub TellsAll : (source : Bool) → List PlainFile → PlainRefusal → (old new : List ℕ) → Type 0
+TellsAll source files refusal old new =
     (statements : List PlainStatement) (fault : PlainFault) → Reads files statements (Some fault)
-    → refusal ≡ text_refusal files fault → TellsOrigins files statements fault old new
+    → refusal ≡ text_refusal files fault → TellsOrigins source files statements fault old new
 
 -- a fault of another rule stands in what isn't closed before it
-other_origins : (files : List PlainFile) (statements : List PlainStatement) (fault : PlainFault)
-    (rule : TextRule) (details : List Detail) → ¬ (rule ≡ S6) → ¬ (rule ≡ X6)
-    → AreBegun files fault details → AreOrigins files statements fault rule details
-other_origins files statements fault S6 details closed opened e = absurd (closed refl)
-other_origins files statements fault X6 details closed opened e = absurd (opened refl)
-other_origins files statements fault rule details closed opened e = e
+other_origins : (source : Bool) (files : List PlainFile) (statements : List PlainStatement)
+    (fault : PlainFault) (rule : TextRule) (details : List Detail) → ¬ (rule ≡ S6) → ¬ (rule ≡ X6)
+    → AreBegun files fault details → AreOrigins source files statements fault rule details
+other_origins source files statements fault S6 details closed opened e = absurd (closed refl)
+other_origins source files statements fault X6 details closed opened e = absurd (opened refl)
+other_origins source files statements fault rule details closed opened e = e
 
 -- what isn't closed before the fault that is refused
 begun_there : (files : List PlainFile) (refusal : PlainRefusal) (fault : PlainFault)
@@ -165,14 +165,15 @@ begun_there files refusal fault begin refused begins = (
       ∙ ap (λ (p : PlainRefusal). places_begun files p.file (unclosed_in p.file begins.ending)) refused,
 )
 
-module _ {T E : Type 0} (files : List PlainFile) (refusal : PlainRefusal) (old new : List ℕ) where
+module _ {T E : Type 0} (source : Bool) (files : List PlainFile) (refusal : PlainRefusal)
+    (old new : List ℕ) where
   -- for S6 the last block that is closed
   pub block_told : (r : Result T E) (closed : Option PlainToken)
       → refusal.rule ≡ rules.Text S6
       → ((statements : List PlainStatement) (ending : Option PlainFault)
       → Reads files statements ending → closed ≡ last_of (closing_tokens statements))
       → OnOk r (new ≡ old ++ details_text (blocks_closed files closed))
-      → OnOk r (TellsAll files refusal old new)
+      → OnOk r (TellsAll source files refusal old new)
   block_told (Err e) closed is last put = tt
   block_told (Ok v) closed is last put = λ statements fault reads refused.
       let told : rules.Text fault.rule ≡ rules.Text S6 =
@@ -180,7 +181,7 @@ module _ {T E : Type 0} (files : List PlainFile) (refusal : PlainRefusal) (old n
       let rule : fault.rule ≡ S6 = cc told in
       record {
         details = blocks_closed files closed;
-        begun = subst (λ (t : TextRule). AreOrigins files statements fault t
+        begun = subst (λ (t : TextRule). AreOrigins source files statements fault t
             (blocks_closed files closed)) (sym rule)
             (ap (blocks_closed files) (last statements (Some fault) reads));
         put = put;
@@ -193,8 +194,8 @@ module _ {T E : Type 0} (files : List PlainFile) (refusal : PlainRefusal) (old n
       → ((statements : List PlainStatement) (ending : Option PlainFault)
       → Reads files statements ending → IsOpenBlock statements block)
       → middle ≡ old ++ details_text (places_begun files refusal.file begin)
-      → OnOk r (new ≡ middle ++ details_text (blocks_opened files (option_map plain_token block)))
-      → OnOk r (TellsAll files refusal old new)
+      → OnOk r (new ≡ middle ++ details_text (blocks_opened source files (option_map plain_token block)))
+      → OnOk r (TellsAll source files refusal old new)
   opened_told (Err e) begin block middle is begins there first put = tt
   opened_told (Ok v) begin block middle is begins there first put =
       λ statements fault reads refused.
@@ -202,15 +203,15 @@ module _ {T E : Type 0} (files : List PlainFile) (refusal : PlainRefusal) (old n
       ap (λ (p : PlainRefusal). p.rule) (sym refused) ∙ is in
       let rule : fault.rule ≡ X6 = cc told in
       let begun = places_begun files refusal.file begin in
-      let opened = blocks_opened files (option_map plain_token block) in
+      let opened = blocks_opened source files (option_map plain_token block) in
       record {
         details = begun ++ opened;
-        begun = subst (λ (t : TextRule). AreOrigins files statements fault t (begun ++ opened))
+        begun = subst (λ (t : TextRule). AreOrigins source files statements fault t (begun ++ opened))
             (sym rule) (
               begun,
               opened,
               begun_there files refusal fault begin refused begins,
-              opened_there files statements block (there statements (Some fault) reads),
+              opened_there source files statements block (there statements (Some fault) reads),
               refl,
             );
         put = put ∙ ap (λ m. m ++ details_text opened) first
@@ -222,31 +223,31 @@ module _ {T E : Type 0} (files : List PlainFile) (refusal : PlainRefusal) (old n
   pub begin_told : (r : Result T E) (begin : Option ℕ) → ¬ (refusal.rule ≡ rules.Text S6)
       → ¬ (refusal.rule ≡ rules.Text X6) → IsBegin files refusal.file refusal.at begin
       → OnOk r (new ≡ old ++ details_text (places_begun files refusal.file begin))
-      → OnOk r (TellsAll files refusal old new)
+      → OnOk r (TellsAll source files refusal old new)
   begin_told (Err e) begin closed opened begins put = tt
   begin_told (Ok v) begin closed opened begins put = λ statements fault reads refused.
       let rule : refusal.rule ≡ rules.Text fault.rule = ap (λ (p : PlainRefusal). p.rule) refused in
       record {
         details = places_begun files refusal.file begin;
-        begun = other_origins files statements fault fault.rule _
+        begun = other_origins source files statements fault fault.rule _
             (λ is. closed (rule ∙ ap rules.Text is)) (λ is. opened (rule ∙ ap rules.Text is))
             (begun_there files refusal fault begin refused begins);
         put = put;
       }
 
 -- the token, and then where what it stands in began
-pub text_told : (files : List PlainFile) (refusal : PlainRefusal)
+pub text_told : (source : Bool) (files : List PlainFile) (refusal : PlainRefusal)
     (statements : List PlainStatement) (fault : PlainFault) → Reads files statements (Some fault)
     → refusal ≡ text_refusal files fault → (bytes token start first_out middle out : List ℕ)
     → (rule : TextRule) → rules.Text rule ≡ refusal.rule
     → bytes ≡ bytes_of files refusal.file → token ≡ token_from bytes refusal.at → start ≡ []
     → first_out ≡ start ++ detail_text (token_at_fault token)
     → middle ≡ first_out ++ details_text (missing_facts rule token)
-    → TellsOrigins files statements fault middle out
-    → (details : List Detail) × AreTextFacts files refusal refusal.at details
+    → TellsOrigins source files statements fault middle out
+    → (details : List Detail) × AreTextFacts source files refusal refusal.at details
     × (out ≡ details_text details)
-text_told files refusal statements fault reads refused bytes token start first_out middle out rule
-    ruled from is none put more told =
+text_told source files refusal statements fault reads refused bytes token start first_out middle out
+    rule ruled from is none put more told =
     let there : List ℕ = token_from (bytes_of files fault.file) fault.at in
     let same_rule : rules.Text rule ≡ rules.Text fault.rule =
     ruled ∙ ap (λ (p : PlainRefusal). p.rule) refused in

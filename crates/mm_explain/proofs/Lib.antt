@@ -1,6 +1,7 @@
 pub mod LoneProofs
 pub mod Explanations
 pub mod LastFaults
+pub mod SourceLines
 pub mod NearestLabels
 pub mod CutFiles
 pub mod LaterLabels

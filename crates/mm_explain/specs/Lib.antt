@@ -1,5 +1,6 @@
 pub mod Reply
 pub mod Near
+pub mod Source
 pub mod Mirror
 pub mod TextFacts
 pub mod HypothesisPlaces

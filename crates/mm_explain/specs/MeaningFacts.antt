@@ -1,7 +1,7 @@
 -- What explains a fault of a rule of meaning: the token at fault, and the earlier one with which it
 -- collides, which are this project's own.
 use Rattle.std.specs.Prelude.{◌≡◌, ℕ, List, [], ◌∷◌, ◌++◌, map, reverse, find, take, drop}
-use Rattle.std.specs.Prelude.{Option, Some, None, option_map, unwrap_or, slice_get}
+use Rattle.std.specs.Prelude.{Bool, Option, Some, None, option_map, unwrap_or, slice_get}
 use Rattle.std.specs.List.{flat_map}
 use Rattle.std.specs.Option.{option_to_list}
 use Rattle.std.specs.Str.{bytes_eq}
@@ -18,9 +18,10 @@ use Rattle.mm_frame.specs.Sentence.{sentence_of}
 use Rattle.mm_frame.specs.Breaking.{BreaksAt}
 use Rattle.mm_rules.specs.Verdict.{PlainRefusal, sentences}
 use Rattle.mm_verdict.specs.Faults.{IsMeaningRefusal}
-use Rattle.mm_facts.specs.Explained.{Detail, token_at_fault, block_opened}
+use Rattle.mm_facts.specs.Explained.{Detail, token_at_fault}
 use Rattle.mm_rules.specs.Places.{token_place}
 use Rattle.mm_facts.specs.MeaningFacts.{met_as}
+use Rattle.mm_explain.specs.Source.{opened_block}
 
 -- the token at fault: the symbol at the index, or the statement's first token where no symbol
 -- breaks the rule
@@ -90,19 +91,19 @@ met_facts files rule (Some t) = met_as rule (token_place files t) ∷ []
 
 -- The facts on what came before: for M1 where the innermost open block begins, else where the name
 -- was met last.
-abbrev pub AreEarlierFacts : List PlainFile → MeaningRule → (before : List PlainStatement)
-    → PlainStatement → (index : Option ℕ) → List Detail → Type 0
-AreEarlierFacts files M1 before s index details =
+abbrev pub AreEarlierFacts : (source : Bool) → List PlainFile → MeaningRule
+    → (before : List PlainStatement) → PlainStatement → (index : Option ℕ) → List Detail → Type 0
+AreEarlierFacts source files M1 before s index details =
     (outer : List PlainStatement) × (opening : PlainStatement) × IsInnermost before outer opening
-    × (details ≡ block_opened (token_place files opening.first) ∷ [])
-AreEarlierFacts files rule before s index details =
+    × (details ≡ opened_block source files opening.first ∷ [])
+AreEarlierFacts source files rule before s index details =
     details
     ≡ met_facts files rule (last_looked_at rule before s index (token_at s index).text)
 
 -- The facts that explain the refusal of a statement of the files for a rule of meaning, and the
 -- position in the statement's file where it breaks the rule.
-pub record AreMeaningFacts (files : List PlainFile) (refusal : PlainRefusal) (at : ℕ)
-    (details : List Detail) : Type 0 where
+pub record AreMeaningFacts (source : Bool) (files : List PlainFile) (refusal : PlainRefusal)
+    (at : ℕ) (details : List Detail) : Type 0 where
   pub before : List PlainStatement
   pub s : PlainStatement
   pub after : List PlainStatement
@@ -113,5 +114,5 @@ pub record AreMeaningFacts (files : List PlainFile) (refusal : PlainRefusal) (at
   pub breaks : BreaksAt refused.rule (sentences before) (sentence_of s) index
   pub place : at ≡ (token_at s index).at
   pub earlier : List Detail
-  pub met : AreEarlierFacts files refused.rule before s index earlier
+  pub met : AreEarlierFacts source files refused.rule before s index earlier
   pub told : details ≡ token_at_fault (token_at s index).text ∷ earlier

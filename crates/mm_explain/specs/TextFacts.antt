@@ -17,9 +17,10 @@ use Rattle.mm_text.specs.Files.{PlainFile}
 use Rattle.mm_text.specs.Reading.{PlainFault, Reads}
 use Rattle.mm_text.specs.Replaced.{with_bytes}
 use Rattle.mm_rules.specs.Verdict.{PlainRefusal, text_refusal}
-use Rattle.mm_facts.specs.Explained.{Detail, token_at_fault, begun_at, block_opened}
+use Rattle.mm_facts.specs.Explained.{Detail, token_at_fault, begun_at}
 use Rattle.mm_facts.specs.Explained.{last_closed_at, missing_before}
 use Rattle.mm_rules.specs.Places.{bytes_of, place_of, place_text, token_place}
+use Rattle.mm_explain.specs.Source.{opened_block}
 
 -- the token that begins at a position: the bytes from there up to the next white space
 abbrev pub token_from : (bytes : List ℕ) → (at : ℕ) → List ℕ
@@ -67,16 +68,18 @@ abbrev pub blocks_closed : List PlainFile → (closed : Option PlainToken) → L
 blocks_closed files closed = map (λ t. last_closed_at (token_place files t)) (option_to_list closed)
 
 -- where an open block begins, if there is one
-abbrev pub blocks_opened : List PlainFile → (opening : Option PlainToken) → List Detail
-blocks_opened files opening = map (λ t. block_opened (token_place files t)) (option_to_list opening)
+abbrev pub blocks_opened : (source : Bool) → List PlainFile → (opening : Option PlainToken)
+    → List Detail
+blocks_opened source files opening = map (opened_block source files) (option_to_list opening)
 
 -- where the innermost block begins that is open after these statements, if one is
-abbrev pub AreBlocksOpened : List PlainFile → List PlainStatement → List Detail → Type 0
-AreBlocksOpened files statements details =
+abbrev pub AreBlocksOpened : (source : Bool) → List PlainFile → List PlainStatement → List Detail
+    → Type 0
+AreBlocksOpened source files statements details =
     (AreClosed statements × (details ≡ []))
     ⊎ ((outer : List PlainStatement) × (opening : PlainStatement)
     × IsInnermost statements outer opening
-    × (details ≡ block_opened (token_place files opening.first) ∷ []))
+    × (details ≡ opened_block source files opening.first ∷ []))
 
 -- where the comment, the inclusion or the statement began in which the fault stands, if it stands in
 -- one: that isn't closed in the files up to the fault
@@ -88,14 +91,14 @@ AreBegun files fault details =
 
 -- The facts of places: for S6 where the last block is closed; else where what the fault stands in
 -- began, and for X6 then where the innermost open block begins.
-abbrev pub AreOrigins : List PlainFile → List PlainStatement → PlainFault → TextRule → List Detail
-    → Type 0
-AreOrigins files statements fault S6 details =
+abbrev pub AreOrigins : (source : Bool) → List PlainFile → List PlainStatement → PlainFault
+    → TextRule → List Detail → Type 0
+AreOrigins source files statements fault S6 details =
     details ≡ blocks_closed files (last_of (closing_tokens statements))
-AreOrigins files statements fault X6 details =
+AreOrigins source files statements fault X6 details =
     (begun : List Detail) × (opened : List Detail) × AreBegun files fault begun
-    × AreBlocksOpened files statements opened × (details ≡ begun ++ opened)
-AreOrigins files statements fault rule details = AreBegun files fault details
+    × AreBlocksOpened source files statements opened × (details ≡ begun ++ opened)
+AreOrigins source files statements fault rule details = AreBegun files fault details
 
 -- What is missing before the token at which the rule is broken, where the two tell that: the label
 -- of a `$f`, `$e`, `$a` or `$p`; the `$=` of a `$p` before its `$.`; the `$.` of a statement before
@@ -113,7 +116,7 @@ missing_facts rule token = map missing_before (option_to_list (missing rule toke
 
 -- The facts that explain the refusal for the fault of the text, in order, and the position that is
 -- told.
-pub record AreTextFacts (files : List PlainFile) (refusal : PlainRefusal) (at : ℕ)
+pub record AreTextFacts (source : Bool) (files : List PlainFile) (refusal : PlainRefusal) (at : ℕ)
     (details : List Detail) : Type 0 where
   pub statements : List PlainStatement
   pub fault : PlainFault
@@ -121,6 +124,6 @@ pub record AreTextFacts (files : List PlainFile) (refusal : PlainRefusal) (at : 
   pub refused : refusal ≡ text_refusal files fault
   pub there : at ≡ fault.at
   pub origins : List Detail
-  pub begun : AreOrigins files statements fault fault.rule origins
+  pub begun : AreOrigins source files statements fault fault.rule origins
   pub told : details ≡ token_at_fault (token_from (bytes_of files fault.file) fault.at)
       ∷ (missing_facts fault.rule (token_from (bytes_of files fault.file) fault.at) ++ origins)

@@ -1,7 +1,7 @@
 -- Why the files aren't accepted: all their faults, each with what explains it. The explanations are
 -- this project's own.
 use Rattle.std.specs.Prelude.{◌≡◌, ℕ, ◌-◌, ◌==◌, if◌then◌else◌, List, [], ◌∷◌, ◌++◌, filter}
-use Rattle.std.specs.Prelude.{take, length, not, Option, Some, None, codes}
+use Rattle.std.specs.Prelude.{take, length, not, Bool, Option, Some, None, codes}
 use Rattle.std.specs.Prelude.{decimal}
 use Rattle.std.specs.List.{flat_map, AllZip}
 use Rattle.mm_base.specs.Statement.{PlainStatement}
@@ -22,6 +22,7 @@ use Rattle.mm_facts.specs.Explained.{Detail, AreDetails, details_text}
 use Rattle.mm_explain.specs.HypothesisPlaces.{AreHypothesisPlaces}
 use Rattle.mm_explain.specs.LastFacts.{AreLastFacts}
 use Rattle.mm_explain.specs.Later.{IsUnknownIn, stated_later}
+use Rattle.mm_explain.specs.Source.{source_text}
 use Rattle.mm_explain.specs.Unused.{AreUnused, unused_text}
 use Rattle.mm_rules.specs.Places.{place_of, place_text}
 use Rattle.mm_verdict.specs.Why.{is_of_proofs}
@@ -56,6 +57,10 @@ head_at files file at rule label step =
 abbrev pub head_text : List PlainFile → (at : ℕ) → PlainRefusal → List ℕ
 head_text files at r = head_at files r.file at r.rule r.label r.step
 
+-- that, and where it is asked for the line of the file, with a mark
+abbrev pub head_lines : (source : Bool) → List PlainFile → (at : ℕ) → PlainRefusal → List ℕ
+head_lines source files at r = head_text files at r ++ source_text source files r.file at
+
 -- that of the first fault of the proof in a text that is handed in, among its bytes, as one of the
 -- `$p`
 abbrev pub IsTextPlace : Profile → (before : List Sentence) → Sentence → (text : List ℕ)
@@ -65,11 +70,11 @@ IsTextPlace profile before s text rule step at =
 
 -- ---- explanations
 
--- The text explains the refusal of a statement of the files for the fault of its proof: the first
--- line, the facts, those of where hypotheses stand, the listed labels that no step is by, and where
+-- The text explains the refusal of a statement of the files for the fault of its proof: the head,
+-- the facts, those of where hypotheses stand, the listed labels that no step is by, and where
 -- a label that no earlier statement has is stated further down.
-pub record IsExplanation (profile : Profile) (files : List PlainFile) (refusal : PlainRefusal)
-    (text : List ℕ) : Type 0 where
+pub record IsExplanation (profile : Profile) (source : Bool) (files : List PlainFile)
+    (refusal : PlainRefusal) (text : List ℕ) : Type 0 where
   pub before : List PlainStatement
   pub s : PlainStatement
   pub after : List PlainStatement
@@ -87,16 +92,16 @@ pub record IsExplanation (profile : Profile) (files : List PlainFile) (refusal :
   pub by_none : AreUnused (sentences before) (sentence_of s) (proof_of s) refused.step unused
   pub label : Option (List ℕ)
   pub unknown : IsUnknownIn (sentences before) (proof_of s) refused.rule label
-  pub said : text ≡ head_text files at refusal ++ details_text (details ++ places)
+  pub said : text ≡ head_lines source files at refusal ++ details_text (details ++ places)
       ++ unused_text unused ++ details_text (stated_later files label after)
 
--- The text explains the refusal for the fault that ends the run: the first line, and the facts.
-pub record IsLastExplanation (files : List PlainFile) (refusal : PlainRefusal)
+-- The text explains the refusal for the fault that ends the run: the head, and the facts.
+pub record IsLastExplanation (source : Bool) (files : List PlainFile) (refusal : PlainRefusal)
     (text : List ℕ) : Type 0 where
   pub at : ℕ
   pub details : List Detail
-  pub facts : AreLastFacts files refusal at details
-  pub said : text ≡ head_text files at refusal ++ details_text details
+  pub facts : AreLastFacts source files refusal at details
+  pub said : text ≡ head_lines source files at refusal ++ details_text details
 
 -- how many faults of proofs are explained
 abbrev pub most_explained : ℕ
@@ -119,14 +124,14 @@ count_text count =
 
 -- The text tells these faults: it explains the one that ended the run, if one did, and the first of
 -- those of proofs, counts the others of proofs, and counts all.
-pub record TellsFaults (profile : Profile) (files : List PlainFile) (refusals : List PlainRefusal)
-    (text : List ℕ) : Type 0 where
+pub record TellsFaults (profile : Profile) (source : Bool) (files : List PlainFile)
+    (refusals : List PlainRefusal) (text : List ℕ) : Type 0 where
   pub explanations : List (List ℕ)
-  pub each : AllZip (IsExplanation profile files)
+  pub each : AllZip (IsExplanation profile source files)
       (take most_explained (filter (λ r. is_of_proofs r.rule) refusals)) explanations
   pub last : List (List ℕ)
-  pub ended : AllZip (IsLastExplanation files) (filter (λ r. not (is_of_proofs r.rule)) refusals)
-      last
+  pub ended : AllZip (IsLastExplanation source files)
+      (filter (λ r. not (is_of_proofs r.rule)) refusals) last
   pub said : text ≡ flat_map (λ t. t) last ++ flat_map (λ t. t) explanations
       ++ more_text profile (length (filter (λ r. is_of_proofs r.rule) refusals) - most_explained)
       ++ count_text (length refusals)

@@ -15,8 +15,9 @@ ghost use Rattle.mm_rules.specs.declared.rule.Rule.TheVariants.{Meaning};
 
 use crate::earlier_declaration::last_met_before;
 use crate::semantic_error::{SemanticError, read_semantic_error};
+use crate::source::push_open_block;
 use mm_base::{File, Kind, Seed, Statement, Token};
-use mm_facts::{push_block, push_met, push_token};
+use mm_facts::{push_met, push_token};
 use mm_frame::MeaningRule;
 use mm_rules::{Refusal, Rule};
 use mm_text::{Passing, pass_first};
@@ -98,18 +99,19 @@ fn push_earlier<'a>(
     seed: Seed,
     files: &'a [File<'a>],
     error: &SemanticError<'a>,
+    source: bool,
 ) -> Result<(), AllocError>
     requires { IsSemanticError (map plain_file files.now) error.now }
     ensures { OnOk result ((details : List Detail)
         × ((site : Site (map plain_file files.now) error.now.before)
-        → AreEarlierFacts (map plain_file files.now) error.now.rule site.before site.s
+        → AreEarlierFacts source (map plain_file files.now) error.now.rule site.before site.s
         error.now.index details)
         × (out.new.items ≡ out.old.items ++ details_text details)) }
 {
     match error.rule {
         MeaningRule::M1 => {
             let block = innermost_before(alloc, seed, files, error.before)?;
-            push_block(out, files, block)
+            push_open_block(out, files, block, source)
         }
         _ => match last_met_before(alloc, seed, files, error)? {
             Some(token) => push_met(out, files, error.rule, token),
@@ -125,10 +127,12 @@ pub(crate) fn meaning_facts<'a>(
     seed: Seed,
     files: &'a [File<'a>],
     refusal: &Refusal<'a>,
+    source: bool,
 ) -> Result<(usize, Vec<u8>), AllocError>
     requires { IsStopped (map plain_file files.now) (plain_refusal refusal.now) }
     ensures { IfOk result (λ told. (details : List Detail)
-        × AreMeaningFacts (map plain_file files.now) (plain_refusal refusal.now) told.0 details
+        × AreMeaningFacts source (map plain_file files.now) (plain_refusal refusal.now) told.0
+        details
         × (told.1.items ≡ details_text details)) }
 {
     let rule = meaning_rule(refusal);
@@ -136,6 +140,6 @@ pub(crate) fn meaning_facts<'a>(
     let token = error.token();
     let mut text = Vec::new(alloc);
     push_token(&mut text, token.text)?;
-    push_earlier(&mut text, alloc, seed, files, &error)?;
+    push_earlier(&mut text, alloc, seed, files, &error, source)?;
     Ok((token.at as usize, text))
 }

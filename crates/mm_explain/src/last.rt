@@ -13,22 +13,23 @@ use mm_base::{File, Seed};
 use mm_rules::{Refusal, Rule};
 use std::alloc::{AllocError, Global};
 
-/// The facts that explain the refusal for the fault that ends the run, and the position that is
-/// told.
+/// The facts that explain the refusal for the fault that ends the run, if so it is said with the line
+/// of an open block, and the position that is told.
 pub(crate) fn last_facts<'a>(
     alloc: Global,
     seed: Seed,
     files: &'a [File<'a>],
     refusal: &Refusal<'a>,
+    source: bool,
 ) -> Result<(usize, Vec<u8>), AllocError>
     requires { EndsRun (map plain_file files.now) (plain_refusal refusal.now) }
     ensures { IfOk result (λ told. (details : List Detail)
-        × AreLastFacts (map plain_file files.now) (plain_refusal refusal.now) told.0 details
+        × AreLastFacts source (map plain_file files.now) (plain_refusal refusal.now) told.0 details
         × (told.1.items ≡ details_text details)) }
 {
     match refusal.rule {
-        Rule::Text(_) => text_facts(alloc, seed, files, refusal),
-        Rule::Meaning(_) => meaning_facts(alloc, seed, files, refusal),
+        Rule::Text(_) => text_facts(alloc, seed, files, refusal, source),
+        Rule::Meaning(_) => meaning_facts(alloc, seed, files, refusal, source),
         // No rule of another kind ends the run.
         _ => unreachable!(),
     }

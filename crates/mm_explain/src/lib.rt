@@ -15,6 +15,7 @@ mod place_lines;
 pub mod read_to;
 mod scope;
 mod semantic_error;
+mod source;
 mod statement_at;
 mod text_fault;
 mod trial;

@@ -24,8 +24,9 @@ ghost use Rattle.mm_rules.specs.Verdict.{CanBeRead, text_refusal};
 
 use crate::conflict::OpenBlocks;
 use crate::place_lines::{push_begun, push_last_closed};
+use crate::source::push_open_block;
 use mm_base::{File, Kind, Seed, Statement, Token};
-use mm_facts::{push_block as push_opening, push_missing_before, push_token};
+use mm_facts::{push_missing_before, push_token};
 use mm_rules::{Refusal, Rule, bytes_before, bytes_from, bytes_of};
 use mm_text::{Passing, Statements, TextFault, TextRule, pass_all};
 use mm_verdict::is_space;
@@ -215,13 +216,18 @@ fn push_begin(
 }
 
 /// Where an open block begins, if there is one.
-fn push_opened(out: &mut Vec<u8>, files: &[File], block: Option<Token>) -> Result<(), AllocError>
+fn push_opened(
+    out: &mut Vec<u8>,
+    files: &[File],
+    block: Option<Token>,
+    source: bool,
+) -> Result<(), AllocError>
     ensures { OnOk result (out.new.items ≡ out.old.items
-        ++ details_text (blocks_opened (map plain_file files.now)
+        ++ details_text (blocks_opened source (map plain_file files.now)
         (option_map plain_token block.entry))) }
 {
     match block {
-        Some(token) => push_opening(out, files, token),
+        Some(token) => push_open_block(out, files, token, source),
         None => Ok(()),
     }
 }
@@ -257,12 +263,14 @@ fn push_origins<'a>(
     seed: Seed,
     files: &'a [File<'a>],
     refusal: &Refusal,
+    source: bool,
 ) -> Result<(), AllocError>
     requires { IsTextRefusal (map plain_file files.now) (plain_refusal refusal.now) }
     ensures { OnOk result ((statements : List PlainStatement) (fault : PlainFault)
         → Reads (map plain_file files.now) statements (Some fault)
         → plain_refusal refusal.now ≡ text_refusal (map plain_file files.now) fault
-        → TellsOrigins (map plain_file files.now) statements fault out.old.items out.new.items) }
+        → TellsOrigins source (map plain_file files.now) statements fault out.old.items
+        out.new.items) }
 {
     match rule_in(refusal) {
         TextRule::S6 => {
@@ -273,7 +281,7 @@ fn push_origins<'a>(
             let begin = begin_before(alloc, seed, files, refusal.file, refusal.at)?;
             push_begin(out, files, refusal.file, begin)?;
             let block = open_block(alloc, seed, files)?;
-            push_opened(out, files, block)
+            push_opened(out, files, block, source)
         }
         _ => {
             let begin = begin_before(alloc, seed, files, refusal.file, refusal.at)?;
@@ -334,10 +342,11 @@ pub(crate) fn text_facts<'a>(
     seed: Seed,
     files: &'a [File<'a>],
     refusal: &Refusal,
+    source: bool,
 ) -> Result<(usize, Vec<u8>), AllocError>
     requires { IsTextRefusal (map plain_file files.now) (plain_refusal refusal.now) }
     ensures { IfOk result (λ told. (details : List Detail)
-        × AreTextFacts (map plain_file files.now) (plain_refusal refusal.now) told.0 details
+        × AreTextFacts source (map plain_file files.now) (plain_refusal refusal.now) told.0 details
         × (told.1.items ≡ details_text details)) }
 {
     let mut out = Vec::new(alloc);
@@ -345,6 +354,6 @@ pub(crate) fn text_facts<'a>(
     let token = token_from(bytes, refusal.at);
     push_token(&mut out, token)?;
     push_missing(&mut out, rule_in(refusal), token)?;
-    push_origins(&mut out, alloc, seed, files, refusal)?;
+    push_origins(&mut out, alloc, seed, files, refusal, source)?;
     Ok((refusal.at, out))
 }

@@ -14,7 +14,8 @@ ghost use Rattle.mm_rules.specs.Verdict.{CanBeRead, HasVerdict};
 ghost use Rattle.mm_rules.specs.Answer.{plain_refusal, verdict_of_conclusion};
 ghost use Rattle.mm_rules.specs.Status.{number_of};
 ghost use Rattle.mm_explain.specs.Why.{owner_words as owner_words_of, owner_text, step_text};
-ghost use Rattle.mm_explain.specs.Why.{head_at, head_text, IsExplanation, IsLastExplanation};
+ghost use Rattle.mm_explain.specs.Why.{head_at, head_lines, head_text, IsExplanation};
+ghost use Rattle.mm_explain.specs.Why.{IsLastExplanation};
 ghost use Rattle.mm_verdict.specs.Why.{is_of_proofs};
 ghost use Rattle.mm_explain.specs.Why.{most_explained, more_text, count_text};
 ghost use Rattle.mm_explain.specs.Why.{listing_words as listing_words_of};
@@ -32,6 +33,7 @@ ghost use Rattle.mm_rules.specs.declared.rule.Rule.TheVariants.{Proof};
 use crate::forward_reference::{push_later, read_labels};
 use crate::hypothesis_places::push_hypothesis_places;
 use crate::last::last_facts;
+use crate::source::push_source;
 use crate::unused::push_unused;
 use mm_base::{File, Seed, Statement, Token};
 use mm_facts::{Cause, cause_of, fault_place, push_cause};
@@ -141,6 +143,21 @@ pub fn push_head(
     push_head_at(out, files, position, fault, refusal.label)
 }
 
+/// Appends that, and where it is asked for the line of the file.
+fn push_head_lines(
+    out: &mut Vec<u8>,
+    files: &[File],
+    at: usize,
+    refusal: &Refusal,
+    source: bool,
+) -> Result<(), AllocError>
+    ensures { OnOk result (out.new.items ≡ out.old.items
+        ++ head_lines source (map plain_file files.now) at (plain_refusal refusal.now)) }
+{
+    push_head(out, files, at, refusal)?;
+    push_source(out, files, (refusal.file, at), source)
+}
+
 /// The question that lists all faults of proofs under the profile.
 fn listing_words(profile: Profile) -> &'static [u8]
     ensures { result.now ≡ listing_words_of profile }
@@ -233,31 +250,55 @@ fn unknown_label<'t>(cause: &Cause<'t>, rule: ProofRule) -> Option<&'t [u8]>
     }
 }
 
+/// How faults are explained.
+#[derive(Clone, Copy)]
+struct Manner {
+    /// The profile under which proofs are judged.
+    profile: Profile,
+    /// Whether the line of the file stands behind each head.
+    source: bool,
+}
+
 /// Explains the refusal of the `$p` that the book took last, for the fault of its proof, but for
 /// where a label that no earlier statement has is stated further down: that label is answered.
 fn push_explanation<'a>(
     out: &mut Vec<u8>,
     alloc: Global,
-    profile: Profile,
+    manner: Manner,
     files: &[File],
     book: &Book,
     statement: &Statement<'a>,
     refusal: &Refusal,
 ) -> Result<Option<&'a [u8]>, AllocError>
     requires formed { HasForm (plain_statement statement.now) }
-    requires refused { IsRefusedLast profile (map plain_file files.now) book.now.statements
+    requires refused { IsRefusedLast manner.profile (map plain_file files.now) book.now.statements
         (plain_statement statement.now) (plain_refusal refusal.now) }
     ensures { IfOk result (λ label. (text : List ℕ)
-        × IsExplainedBut profile (map plain_file files.now) book.now.statements
+        × IsExplainedBut manner.profile manner.source (map plain_file files.now)
+        book.now.statements
         (plain_statement statement.now) (plain_refusal refusal.now)
         (option_map (λ l. l.now) label) text
         × (out.new.items ≡ out.old.items ++ text)) }
 {
     let fault = fault_in(refusal);
     let id = last_number(book, statement);
-    let cause = cause_of(alloc, files, profile, book, id, &statement.proof, fault)?;
-    push_head(out, files, fault_place(statement, &cause), refusal)?;
-    push_cause(out, alloc, profile, book, id, &cause, fault.0)?;
+    let cause = cause_of(
+        alloc,
+        files,
+        manner.profile,
+        book,
+        id,
+        &statement.proof,
+        fault,
+    )?;
+    push_head_lines(
+        out,
+        files,
+        fault_place(statement, &cause),
+        refusal,
+        manner.source,
+    )?;
+    push_cause(out, alloc, manner.profile, book, id, &cause, fault.0)?;
     let place = (id, refusal.statement - 1);
     push_hypothesis_places(out, alloc, files, book, place, &cause, fault.0)?;
     push_unused(out, alloc, book, &statement.proof, &cause)?;
@@ -271,14 +312,15 @@ fn push_last<'a>(
     seed: Seed,
     files: &'a [File<'a>],
     refusal: &Refusal<'a>,
+    source: bool,
 ) -> Result<(), AllocError>
     requires { EndsRun (map plain_file files.now) (plain_refusal refusal.now) }
     ensures { OnOk result ((text : List ℕ)
-        × IsLastExplanation (map plain_file files.now) (plain_refusal refusal.now) text
+        × IsLastExplanation source (map plain_file files.now) (plain_refusal refusal.now) text
         × (out.new.items ≡ out.old.items ++ text)) }
 {
-    let (at, facts) = last_facts(alloc, seed, files, refusal)?;
-    push_head(out, files, at, refusal)?;
+    let (at, facts) = last_facts(alloc, seed, files, refusal, source)?;
+    push_head_lines(out, files, at, refusal, source)?;
     out.extend_from_slice(&facts)
 }
 
@@ -289,6 +331,8 @@ struct Reasons<'a> {
     alloc: Global,
     seed: Seed,
     profile: Profile,
+    /// Whether the line of the file stands behind each head.
+    source: bool,
     files: &'a [File<'a>],
     refusals: Vec<Refusal<'a>>,
     /// The explanations.
@@ -304,6 +348,7 @@ impl<'a> Reasons<'a> {
             ≡ self.old.refusals.items ++ refusal.entry ∷ []) }
         ensures text { self.new.text ≡ self.old.text }
         ensures profile { self.new.profile ≡ self.old.profile }
+        ensures source { self.new.source ≡ self.old.source }
         ensures files { self.new.files ≡ self.old.files }
         ensures labels { self.new.labels ≡ self.old.labels }
     {
@@ -321,6 +366,7 @@ impl<'a> Reasons<'a> {
         ensures kept { self.new.refusals ≡ self.old.refusals }
         ensures text { self.new.text ≡ self.old.text }
         ensures profile { self.new.profile ≡ self.old.profile }
+        ensures source { self.new.source ≡ self.old.source }
         ensures files { self.new.files ≡ self.old.files }
     {
         if self.labels.is_empty() {
@@ -344,6 +390,7 @@ impl<'a> Reasons<'a> {
             self.new.labels.items) }
         ensures kept { self.new.refusals ≡ self.old.refusals }
         ensures profile { self.new.profile ≡ self.old.profile }
+        ensures source { self.new.source ≡ self.old.source }
         ensures files { self.new.files ≡ self.old.files }
     {
         self.read_labels()?;
@@ -363,24 +410,23 @@ impl<'a> Reasons<'a> {
         requires labels { AreKeptLabels (map plain_file self.old.files.now)
             self.old.labels.items }
         ensures explained { OnOk result ((text : List ℕ)
-            × IsExplanation self.old.profile (map plain_file self.old.files.now)
-            (plain_refusal refusal.now) text
+            × IsExplanation self.old.profile self.old.source
+            (map plain_file self.old.files.now) (plain_refusal refusal.now) text
             × (self.new.text.items ≡ self.old.text.items ++ text)) }
         ensures labels { OnOk result (AreKeptLabels (map plain_file self.old.files.now)
             self.new.labels.items) }
         ensures kept { self.new.refusals ≡ self.old.refusals }
         ensures profile { self.new.profile ≡ self.old.profile }
+        ensures source { self.new.source ≡ self.old.source }
         ensures files { self.new.files ≡ self.old.files }
     {
+        let manner = Manner {
+            profile: self.profile,
+            source: self.source,
+        };
         let text = &mut self.text;
         let unknown = push_explanation(
-            text,
-            self.alloc,
-            self.profile,
-            self.files,
-            book,
-            statement,
-            refusal,
+            text, self.alloc, manner, self.files, book, statement, refusal,
         )?;
         match unknown {
             Some(label) => self.tell_later(label, refusal.statement),
@@ -415,6 +461,7 @@ impl<'a> Reasons<'a> {
             ++ more_text self.old.profile (length self.old.refusals.items - most_explained)) }
         ensures kept { self.new.refusals ≡ self.old.refusals }
         ensures profile { self.new.profile ≡ self.old.profile }
+        ensures source { self.new.source ≡ self.old.source }
         ensures files { self.new.files ≡ self.old.files }
     {
         let more = self.refusals.len().saturating_sub(MOST_EXPLAINED);
@@ -425,13 +472,14 @@ impl<'a> Reasons<'a> {
     fn tell_last(&mut self, seed: Seed, last: Refusal<'a>) -> Result<(), AllocError>
         requires { EndsRun (map plain_file self.old.files.now) (plain_refusal last) }
         ensures explained { OnOk result ((text : List ℕ)
-            × IsLastExplanation (map plain_file self.old.files.now) (plain_refusal last.entry) text
+            × IsLastExplanation self.old.source (map plain_file self.old.files.now)
+            (plain_refusal last.entry) text
             × (self.new.text.items ≡ text ++ self.old.text.items)) }
         ensures kept { OnOk result (self.new.refusals.items
             ≡ self.old.refusals.items ++ last.entry ∷ []) }
     {
         let mut text = Vec::new(self.alloc);
-        push_last(&mut text, self.alloc, seed, self.files, &last)?;
+        push_last(&mut text, self.alloc, seed, self.files, &last, self.source)?;
         text.extend_from_slice(&self.text)?;
         self.text = text;
         self.keep(last)
@@ -473,7 +521,7 @@ impl<'a> Visitor<'a> for Reasons<'a> {
 }
 
 /// Checks in a profile the database that the files hold, as `all_faults` does, and tells all faults
-/// in one run, each with what explains it.
+/// in one run, each with what explains it, and where it is asked for with its line of the file.
 ///
 /// # Errors
 ///
@@ -484,15 +532,17 @@ pub fn explained<'a>(
     seed: Seed,
     profile: Profile,
     files: &'a [File<'a>],
+    source: bool,
 ) -> Result<Checked<'a>, Unaccepted>
     ensures verdict { IfOk result (λ checked. HasVerdict profile (map plain_file files.now)
         (verdict_of_conclusion checked)) }
-    ensures why { IfErr result (TellsWhy profile (map plain_file files.now)) }
+    ensures why { IfErr result (TellsWhy profile source (map plain_file files.now)) }
 {
     let mut reasons = Reasons {
         alloc,
         seed,
         profile,
+        source,
         files,
         refusals: Vec::new(alloc),
         text: Vec::new(alloc),

@@ -78,8 +78,9 @@ pub data Detail : Type 0 where
   begun_at : (place : List ℕ) → Detail
   -- the place where the last block is closed
   last_closed_at : (place : List ℕ) → Detail
-  -- the place where the block begins in which the statement stands
-  block_opened : (place : List ℕ) → Detail
+  -- the place where the block begins in which the statement stands, and the lines that show it, if
+  -- they are asked for
+  block_opened : (place source : List ℕ) → Detail
   -- the place where the symbol was declared
   declared_at : (place : List ℕ) → Detail
   -- the place where it stands before in the statement
@@ -465,7 +466,8 @@ detail_text (most_symbols symbols) =
     codes "  an expression may have " ++ decimal symbols ++ codes " symbols\n"
 detail_text (begun_at place) = codes "  begun: " ++ place ++ codes "\n"
 detail_text (last_closed_at place) = codes "  the last block is closed: " ++ place ++ codes "\n"
-detail_text (block_opened place) = place ++ codes ": the block is opened here, and not closed\n"
+detail_text (block_opened place source) =
+    place ++ codes ": the block is opened here, and not closed\n" ++ source
 detail_text (declared_at place) = codes "  declared: " ++ place ++ codes "\n"
 detail_text (repeated_at place) = codes "  before: " ++ place ++ codes "\n"
 detail_text (labelled_at place) = codes "  labelled: " ++ place ++ codes "\n"

@@ -620,10 +620,10 @@ fn push_where(
     out.extend_from_slice(after)
 }
 
-/// Where the block begins in which the statement stands.
+/// Where the block begins in which the statement stands, without the lines that show it.
 pub fn push_block(out: &mut Vec<u8>, files: &[File], token: Token) -> Result<(), AllocError>
     ensures { OnOk result (out.new.items ≡ out.old.items ++ detail_text
-        (block_opened (token_place (map plain_file files.now) (plain_token token.entry)))) }
+        (block_opened (token_place (map plain_file files.now) (plain_token token.entry)) [])) }
 {
     let words = b": the block is opened here, and not closed\n";
     push_where(out, b"", files, token, words)

@@ -64,7 +64,7 @@ Example:
   mm faults set.mm
 ";
 
-const WHY: &str = "Usage: mm why [--strict] FILES..
+const WHY: &str = "Usage: mm why [--strict] [--source] FILES..
 
 Checks a database as `mm faults` does, and explains the faults that it lists:
 where each stands, the rule and its meaning, and the facts that show it, as what
@@ -73,6 +73,7 @@ explained first. Of faults of proofs the first ten are explained.
 
 Options:
   --strict   as for check: `mm help check`
+  --source   behind each place its line of the file, and a `^` below the column
 
 Replies:
   FILE:LINE:COLUMN: RULE: MEANING, and what it is a fault of        status 1, 4

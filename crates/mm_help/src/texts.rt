@@ -33,9 +33,10 @@ Commands:
                          in it was checked
   faults [--strict] FILES..
                          checks the database as check does, and lists all its faults in one run
-  why [--strict] FILES..
+  why [--strict] [--source] FILES..
                          checks the database as faults does, and explains what it lists: where each
-                         fault stands, its rule, and what was asked and found
+                         fault stands, its rule, and what was asked and found; with --source also
+                         its line of the file, and a `^` below the column
   axioms [--essential | --to AXIOM] LABEL FILES..
                          checks the database, and lists the axioms that the theorem with this
                          label rests on; with --essential those that have its type code; with --to

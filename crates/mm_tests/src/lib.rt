@@ -73,6 +73,8 @@ mod why_hypotheses;
 #[cfg(test)]
 mod why_meaning;
 #[cfg(test)]
+mod why_source;
+#[cfg(test)]
 mod why_text;
 
 /// A piece of a file: bytes, or bytes so many times one after the other.

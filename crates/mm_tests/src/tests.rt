@@ -10,7 +10,7 @@ ghost use Rattle.mm_check.specs.Reply.{AsksHanded};
 use crate::{
     Case, Part, compressed, damaged, faults, files, finding, incomplete, letters, lone, names,
     one_file, orders, prefixes, profiles, proofs, questions, scopes, statements, users, uses, why,
-    why_hypotheses, why_meaning, why_text,
+    why_hypotheses, why_meaning, why_source, why_text,
 };
 use mm_base::{File, Seed, Statement};
 use mm_check::{Command, WholeQuestion, run};
@@ -308,6 +308,11 @@ fn explained_faults_with_unused_labels(rt: HostRuntime) -> Result<(), Fail> {
 #[test]
 fn explained_faults_with_hypotheses(rt: HostRuntime) -> Result<(), Fail> {
     compare_commands(&rt, rt.alloc(), &why_hypotheses::HYPOTHESES)
+}
+
+#[test]
+fn explained_faults_with_their_lines(rt: HostRuntime) -> Result<(), Fail> {
+    compare_commands(&rt, rt.alloc(), &why_source::SHOWN)
 }
 
 #[test]

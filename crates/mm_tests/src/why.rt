@@ -12,7 +12,7 @@ pub(crate) const EXPLAINED: [(Command<'static>, Case); 14] = [
     (
         Whole {
             profile: Lenient,
-            question: WholeQuestion::Why,
+            question: WholeQuestion::Why { source: false },
         },
         Case {
             name: "no fault",
@@ -24,7 +24,7 @@ pub(crate) const EXPLAINED: [(Command<'static>, Case); 14] = [
     (
         Whole {
             profile: Lenient,
-            question: WholeQuestion::Why,
+            question: WholeQuestion::Why { source: false },
         },
         Case {
             name: "a hypothesis that isn't active is no near label",
@@ -42,7 +42,7 @@ pub(crate) const EXPLAINED: [(Command<'static>, Case); 14] = [
     (
         Whole {
             profile: Lenient,
-            question: WholeQuestion::Why,
+            question: WholeQuestion::Why { source: false },
         },
         Case {
             name: "two faulty proofs, each at its own place",
@@ -62,7 +62,7 @@ f.mm:3:13: P2: no earlier statement has the label, in the proof of q
     (
         Whole {
             profile: Lenient,
-            question: WholeQuestion::Why,
+            question: WholeQuestion::Why { source: false },
         },
         Case {
             name: "twelve faulty proofs, and then a rule of meaning",
@@ -109,7 +109,7 @@ and 2 more, which mm faults lists
     (
         Whole {
             profile: Lenient,
-            question: WholeQuestion::Why,
+            question: WholeQuestion::Why { source: false },
         },
         Case {
             name: "a fault of the text",
@@ -125,7 +125,7 @@ and 2 more, which mm faults lists
     (
         Whole {
             profile: Lenient,
-            question: WholeQuestion::Why,
+            question: WholeQuestion::Why { source: false },
         },
         Case {
             name: "a lost $d that two steps of a proof ask for",
@@ -155,7 +155,7 @@ and 2 more, which mm faults lists
     (
         Whole {
             profile: Lenient,
-            question: WholeQuestion::Why,
+            question: WholeQuestion::Why { source: false },
         },
         Case {
             name: "a step that lacks two pairs for each of two",
@@ -195,7 +195,7 @@ and 2 more, which mm faults lists
     (
         Whole {
             profile: Lenient,
-            question: WholeQuestion::Why,
+            question: WholeQuestion::Why { source: false },
         },
         Case {
             name: "one of three pairs shares a variable",
@@ -220,7 +220,7 @@ and 2 more, which mm faults lists
     (
         Whole {
             profile: Lenient,
-            question: WholeQuestion::Why,
+            question: WholeQuestion::Why { source: false },
         },
         Case {
             name: "faults of moves, each at its own place",
@@ -278,7 +278,7 @@ in the proof of p8, at step 2
     (
         Whole {
             profile: Lenient,
-            question: WholeQuestion::Why,
+            question: WholeQuestion::Why { source: false },
         },
         Case {
             name: "faults of whole proofs, each at its own place",
@@ -319,7 +319,7 @@ f.mm:13:26: P5: a number in the letters isn't ended, in the proof of p8
     (
         Whole {
             profile: Strict,
-            question: WholeQuestion::Why,
+            question: WholeQuestion::Why { source: false },
         },
         Case {
             name: "faults of known prefixes as a whole, and of the form",
@@ -355,7 +355,7 @@ f.mm:8:20: P15: the list or a Z isn't as the strict profile demands, in the proo
     (
         Whole {
             profile: Strict,
-            question: WholeQuestion::Why,
+            question: WholeQuestion::Why { source: false },
         },
         Case {
             name: "labels and marks that aren't of the strict form",
@@ -394,7 +394,7 @@ f.mm:11:24: P15: the list or a Z isn't as the strict profile demands, in the pro
     (
         Whole {
             profile: Lenient,
-            question: WholeQuestion::Why,
+            question: WholeQuestion::Why { source: false },
         },
         Case {
             name: "labels that are near to earlier ones, to their own and later ones, and to none",
@@ -434,7 +434,7 @@ f.mm:8:11: P2: no earlier statement has the label, in the proof of t
     (
         Whole {
             profile: Lenient,
-            question: WholeQuestion::Why,
+            question: WholeQuestion::Why { source: false },
         },
         Case {
             name: "files that cannot be taken",
@@ -453,7 +453,7 @@ pub(crate) const ORDERED: [(Command<'static>, Case); 3] = [
     (
         Whole {
             profile: Strict,
-            question: WholeQuestion::Why,
+            question: WholeQuestion::Why { source: false },
         },
         Case {
             name: "eleven faulty proofs, under the strict profile",
@@ -496,7 +496,7 @@ and 1 more, which mm faults --strict lists
     (
         Whole {
             profile: Lenient,
-            question: WholeQuestion::Why,
+            question: WholeQuestion::Why { source: false },
         },
         Case {
             name: "a pair whose $f stand in the other order than its variables were declared",
@@ -521,7 +521,7 @@ and 1 more, which mm faults --strict lists
     (
         Whole {
             profile: Lenient,
-            question: WholeQuestion::Why,
+            question: WholeQuestion::Why { source: false },
         },
         Case {
             name: "three pairs, of which a variable was first declared in a closed block",
@@ -558,7 +558,7 @@ and 1 more, which mm faults --strict lists
 pub(crate) const UNUSED: [(Command<'static>, Case); 1] = [(
     Whole {
         profile: Lenient,
-        question: WholeQuestion::Why,
+        question: WholeQuestion::Why { source: false },
     },
     Case {
         name: "listed labels that no step is by, but of an unknown step and of a whole proof",

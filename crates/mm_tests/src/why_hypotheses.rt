@@ -12,7 +12,7 @@ pub(crate) const HYPOTHESES: [(Command<'static>, Case); 4] = [
     (
         Whole {
             profile: Lenient,
-            question: WholeQuestion::Why,
+            question: WholeQuestion::Why { source: false },
         },
         Case {
             name: "P3: blocks in the block, before it and behind it, of another file",
@@ -41,7 +41,7 @@ pub(crate) const HYPOTHESES: [(Command<'static>, Case); 4] = [
     (
         Whole {
             profile: Lenient,
-            question: WholeQuestion::Why,
+            question: WholeQuestion::Why { source: false },
         },
         Case {
             name: "P3: the first hypothesis that isn't active, and its own block",
@@ -68,7 +68,7 @@ f.mm:9:11: P3: a hypothesis isn't active, in the proof of q
     (
         Whole {
             profile: Lenient,
-            question: WholeQuestion::Why,
+            question: WholeQuestion::Why { source: false },
         },
         Case {
             name: "the theorem's hypotheses, in database order, where there are some",
@@ -155,7 +155,7 @@ in the proof of p6, at step 1
     (
         Whole {
             profile: Lenient,
-            question: WholeQuestion::Why,
+            question: WholeQuestion::Why { source: false },
         },
         Case {
             name: "the hypotheses of a theorem, which stand in two files",

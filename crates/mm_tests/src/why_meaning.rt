@@ -11,7 +11,7 @@ pub(crate) const DECLARATIONS: [(Command<'static>, Case); 11] = [
     (
         Whole {
             profile: Lenient,
-            question: WholeQuestion::Why,
+            question: WholeQuestion::Why { source: false },
         },
         Case {
             name: "M1: the innermost open block is told",
@@ -30,7 +30,7 @@ f.mm:3:3: the block is opened here, and not closed
     (
         Whole {
             profile: Lenient,
-            question: WholeQuestion::Why,
+            question: WholeQuestion::Why { source: false },
         },
         Case {
             name: "M2: a constant is a variable of a closed block",
@@ -49,7 +49,7 @@ f.mm:3:3: the block is opened here, and not closed
     (
         Whole {
             profile: Lenient,
-            question: WholeQuestion::Why,
+            question: WholeQuestion::Why { source: false },
         },
         Case {
             name: "M2: the first symbol that stands twice",
@@ -65,7 +65,7 @@ f.mm:3:3: the block is opened here, and not closed
     (
         Whole {
             profile: Lenient,
-            question: WholeQuestion::Why,
+            question: WholeQuestion::Why { source: false },
         },
         Case {
             name: "M3: a variable is active",
@@ -81,7 +81,7 @@ f.mm:3:3: the block is opened here, and not closed
     (
         Whole {
             profile: Lenient,
-            question: WholeQuestion::Why,
+            question: WholeQuestion::Why { source: false },
         },
         Case {
             name: "M3: a variable is a constant, and comments name both",
@@ -97,7 +97,7 @@ f.mm:3:3: the block is opened here, and not closed
     (
         Whole {
             profile: Lenient,
-            question: WholeQuestion::Why,
+            question: WholeQuestion::Why { source: false },
         },
         Case {
             name: "M3: the last of two declarations is told",
@@ -113,7 +113,7 @@ f.mm:3:3: the block is opened here, and not closed
     (
         Whole {
             profile: Lenient,
-            question: WholeQuestion::Why,
+            question: WholeQuestion::Why { source: false },
         },
         Case {
             name: "M3: a variable of a closed block stands twice",
@@ -129,7 +129,7 @@ f.mm:3:3: the block is opened here, and not closed
     (
         Whole {
             profile: Lenient,
-            question: WholeQuestion::Why,
+            question: WholeQuestion::Why { source: false },
         },
         Case {
             name: "M4: a variable is a label",
@@ -145,7 +145,7 @@ f.mm:3:3: the block is opened here, and not closed
     (
         Whole {
             profile: Lenient,
-            question: WholeQuestion::Why,
+            question: WholeQuestion::Why { source: false },
         },
         Case {
             name: "M4: a constant is a label in a closed block",
@@ -161,7 +161,7 @@ f.mm:3:3: the block is opened here, and not closed
     (
         Whole {
             profile: Lenient,
-            question: WholeQuestion::Why,
+            question: WholeQuestion::Why { source: false },
         },
         Case {
             name: "M2: a symbol is declared in an included file",
@@ -180,7 +180,7 @@ f.mm:3:3: the block is opened here, and not closed
     (
         Whole {
             profile: Strict,
-            question: WholeQuestion::Why,
+            question: WholeQuestion::Why { source: false },
         },
         Case {
             name: "M3: an included file declares a symbol again",
@@ -203,7 +203,7 @@ pub(crate) const LABELS: [(Command<'static>, Case); 8] = [
     (
         Whole {
             profile: Lenient,
-            question: WholeQuestion::Why,
+            question: WholeQuestion::Why { source: false },
         },
         Case {
             name: "M5: a label in a closed block",
@@ -222,7 +222,7 @@ pub(crate) const LABELS: [(Command<'static>, Case); 8] = [
     (
         Whole {
             profile: Lenient,
-            question: WholeQuestion::Why,
+            question: WholeQuestion::Why { source: false },
         },
         Case {
             name: "M6: a label is a variable of a closed block",
@@ -238,7 +238,7 @@ pub(crate) const LABELS: [(Command<'static>, Case); 8] = [
     (
         Whole {
             profile: Lenient,
-            question: WholeQuestion::Why,
+            question: WholeQuestion::Why { source: false },
         },
         Case {
             name: "M10: the type code is a variable",
@@ -254,7 +254,7 @@ pub(crate) const LABELS: [(Command<'static>, Case); 8] = [
     (
         Whole {
             profile: Lenient,
-            question: WholeQuestion::Why,
+            question: WholeQuestion::Why { source: false },
         },
         Case {
             name: "M11: the second symbol is a constant",
@@ -270,7 +270,7 @@ pub(crate) const LABELS: [(Command<'static>, Case); 8] = [
     (
         Whole {
             profile: Lenient,
-            question: WholeQuestion::Why,
+            question: WholeQuestion::Why { source: false },
         },
         Case {
             name: "M12: the active $f is told",
@@ -289,7 +289,7 @@ pub(crate) const LABELS: [(Command<'static>, Case); 8] = [
     (
         Whole {
             profile: Lenient,
-            question: WholeQuestion::Why,
+            question: WholeQuestion::Why { source: false },
         },
         Case {
             name: "M13: a $f in a closed block is told",
@@ -311,7 +311,7 @@ pub(crate) const LABELS: [(Command<'static>, Case); 8] = [
     (
         Whole {
             profile: Lenient,
-            question: WholeQuestion::Why,
+            question: WholeQuestion::Why { source: false },
         },
         Case {
             name: "M13: the last of two $f is told",
@@ -333,7 +333,7 @@ pub(crate) const LABELS: [(Command<'static>, Case); 8] = [
     (
         Whole {
             profile: Lenient,
-            question: WholeQuestion::Why,
+            question: WholeQuestion::Why { source: false },
         },
         Case {
             name: "M14: an expression begins with a variable",
@@ -353,7 +353,7 @@ pub(crate) const SYMBOLS: [(Command<'static>, Case); 8] = [
     (
         Whole {
             profile: Lenient,
-            question: WholeQuestion::Why,
+            question: WholeQuestion::Why { source: false },
         },
         Case {
             name: "M7: a symbol was never declared",
@@ -368,7 +368,7 @@ pub(crate) const SYMBOLS: [(Command<'static>, Case); 8] = [
     (
         Whole {
             profile: Lenient,
-            question: WholeQuestion::Why,
+            question: WholeQuestion::Why { source: false },
         },
         Case {
             name: "M7: a variable was declared in two closed blocks",
@@ -387,7 +387,7 @@ pub(crate) const SYMBOLS: [(Command<'static>, Case); 8] = [
     (
         Whole {
             profile: Lenient,
-            question: WholeQuestion::Why,
+            question: WholeQuestion::Why { source: false },
         },
         Case {
             name: "M7: a member of a $d was never declared",
@@ -402,7 +402,7 @@ pub(crate) const SYMBOLS: [(Command<'static>, Case); 8] = [
     (
         Whole {
             profile: Lenient,
-            question: WholeQuestion::Why,
+            question: WholeQuestion::Why { source: false },
         },
         Case {
             name: "M8: a member of a $d is a constant",
@@ -418,7 +418,7 @@ pub(crate) const SYMBOLS: [(Command<'static>, Case); 8] = [
     (
         Whole {
             profile: Lenient,
-            question: WholeQuestion::Why,
+            question: WholeQuestion::Why { source: false },
         },
         Case {
             name: "M9: a member stands twice",
@@ -434,7 +434,7 @@ pub(crate) const SYMBOLS: [(Command<'static>, Case); 8] = [
     (
         Whole {
             profile: Lenient,
-            question: WholeQuestion::Why,
+            question: WholeQuestion::Why { source: false },
         },
         Case {
             name: "M9: a member stands three times",
@@ -450,7 +450,7 @@ pub(crate) const SYMBOLS: [(Command<'static>, Case); 8] = [
     (
         Whole {
             profile: Lenient,
-            question: WholeQuestion::Why,
+            question: WholeQuestion::Why { source: false },
         },
         Case {
             name: "M15: a variable has no $f",
@@ -469,7 +469,7 @@ pub(crate) const SYMBOLS: [(Command<'static>, Case); 8] = [
     (
         Whole {
             profile: Lenient,
-            question: WholeQuestion::Why,
+            question: WholeQuestion::Why { source: false },
         },
         Case {
             name: "M15: the $f of a variable stands in a closed block",

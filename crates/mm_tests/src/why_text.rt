@@ -11,7 +11,7 @@ pub(crate) const TEXTS: [(Command<'static>, Case); 14] = [
     (
         Whole {
             profile: Lenient,
-            question: WholeQuestion::Why,
+            question: WholeQuestion::Why { source: false },
         },
         Case {
             name: "a byte that no token may hold",
@@ -27,7 +27,7 @@ pub(crate) const TEXTS: [(Command<'static>, Case); 14] = [
     (
         Whole {
             profile: Lenient,
-            question: WholeQuestion::Why,
+            question: WholeQuestion::Why { source: false },
         },
         Case {
             name: "a comment in a comment, after another one",
@@ -46,7 +46,7 @@ pub(crate) const TEXTS: [(Command<'static>, Case); 14] = [
     (
         Whole {
             profile: Lenient,
-            question: WholeQuestion::Why,
+            question: WholeQuestion::Why { source: false },
         },
         Case {
             name: "a comment that begins right before the mark in it",
@@ -62,7 +62,7 @@ pub(crate) const TEXTS: [(Command<'static>, Case); 14] = [
     (
         Whole {
             profile: Lenient,
-            question: WholeQuestion::Why,
+            question: WholeQuestion::Why { source: false },
         },
         Case {
             name: "an inclusion in a block in another one",
@@ -78,7 +78,7 @@ f.mm:2:2: the block is opened here, and not closed
     (
         Whole {
             profile: Lenient,
-            question: WholeQuestion::Why,
+            question: WholeQuestion::Why { source: false },
         },
         Case {
             name: "an inclusion in a statement in a block",
@@ -95,7 +95,7 @@ f.mm:1:1: the block is opened here, and not closed
     (
         Whole {
             profile: Lenient,
-            question: WholeQuestion::Why,
+            question: WholeQuestion::Why { source: false },
         },
         Case {
             name: "a $. is lost, and two statements run together",
@@ -115,7 +115,7 @@ f.mm:1:1: the block is opened here, and not closed
     (
         Whole {
             profile: Lenient,
-            question: WholeQuestion::Why,
+            question: WholeQuestion::Why { source: false },
         },
         Case {
             name: "a $. is lost, where no label was read",
@@ -132,7 +132,7 @@ f.mm:1:1: the block is opened here, and not closed
     (
         Whole {
             profile: Lenient,
-            question: WholeQuestion::Why,
+            question: WholeQuestion::Why { source: false },
         },
         Case {
             name: "a ${ is lost",
@@ -151,7 +151,7 @@ f.mm:1:1: the block is opened here, and not closed
     (
         Whole {
             profile: Lenient,
-            question: WholeQuestion::Why,
+            question: WholeQuestion::Why { source: false },
         },
         Case {
             name: "a $} alone",
@@ -166,7 +166,7 @@ f.mm:1:1: the block is opened here, and not closed
     (
         Whole {
             profile: Lenient,
-            question: WholeQuestion::Why,
+            question: WholeQuestion::Why { source: false },
         },
         Case {
             name: "a $f with one symbol",
@@ -182,7 +182,7 @@ f.mm:1:1: the block is opened here, and not closed
     (
         Whole {
             profile: Lenient,
-            question: WholeQuestion::Why,
+            question: WholeQuestion::Why { source: false },
         },
         Case {
             name: "a file ends in a statement",
@@ -197,7 +197,7 @@ f.mm:1:1: the block is opened here, and not closed
     (
         Whole {
             profile: Lenient,
-            question: WholeQuestion::Why,
+            question: WholeQuestion::Why { source: false },
         },
         Case {
             name: "a block isn't closed",
@@ -212,7 +212,7 @@ f.mm:1:1: the block is opened here, and not closed
     (
         Whole {
             profile: Lenient,
-            question: WholeQuestion::Why,
+            question: WholeQuestion::Why { source: false },
         },
         Case {
             name: "a block is closed in an included file",
@@ -231,7 +231,7 @@ f.mm:1:1: the block is opened here, and not closed
     (
         Whole {
             profile: Lenient,
-            question: WholeQuestion::Why,
+            question: WholeQuestion::Why { source: false },
         },
         Case {
             name: "a faulty proof, and then a fault of the text",
@@ -257,7 +257,7 @@ pub(crate) const BEGUN: [(Command<'static>, Case); 7] = [
     (
         Whole {
             profile: Lenient,
-            question: WholeQuestion::Why,
+            question: WholeQuestion::Why { source: false },
         },
         Case {
             name: "an inclusion isn't closed",
@@ -273,7 +273,7 @@ pub(crate) const BEGUN: [(Command<'static>, Case); 7] = [
     (
         Whole {
             profile: Lenient,
-            question: WholeQuestion::Why,
+            question: WholeQuestion::Why { source: false },
         },
         Case {
             name: "a byte that no token may hold, in a comment in a statement",
@@ -289,7 +289,7 @@ pub(crate) const BEGUN: [(Command<'static>, Case); 7] = [
     (
         Whole {
             profile: Lenient,
-            question: WholeQuestion::Why,
+            question: WholeQuestion::Why { source: false },
         },
         Case {
             name: "a comment isn't closed, in a statement",
@@ -305,7 +305,7 @@ pub(crate) const BEGUN: [(Command<'static>, Case); 7] = [
     (
         Whole {
             profile: Lenient,
-            question: WholeQuestion::Why,
+            question: WholeQuestion::Why { source: false },
         },
         Case {
             name: "an unlabelled statement isn't ended, in an included file",
@@ -325,7 +325,7 @@ pub(crate) const BEGUN: [(Command<'static>, Case); 7] = [
     (
         Whole {
             profile: Lenient,
-            question: WholeQuestion::Why,
+            question: WholeQuestion::Why { source: false },
         },
         Case {
             name: "a fault stands in no statement, and a comment of the other file isn't closed",
@@ -343,7 +343,7 @@ pub(crate) const BEGUN: [(Command<'static>, Case); 7] = [
     (
         Whole {
             profile: Lenient,
-            question: WholeQuestion::Why,
+            question: WholeQuestion::Why { source: false },
         },
         Case {
             name: "a $p without $=",
@@ -360,7 +360,7 @@ pub(crate) const BEGUN: [(Command<'static>, Case); 7] = [
     (
         Whole {
             profile: Lenient,
-            question: WholeQuestion::Why,
+            question: WholeQuestion::Why { source: false },
         },
         Case {
             name: "a $a without a label",
@@ -380,7 +380,7 @@ pub(crate) const LATER: [(Command<'static>, Case); 3] = [
     (
         Whole {
             profile: Lenient,
-            question: WholeQuestion::Why,
+            question: WholeQuestion::Why { source: false },
         },
         Case {
             name: "labels are stated further down, each first in another file",
@@ -409,7 +409,7 @@ f.mm:3:11: P2: no earlier statement has the label, in the proof of r
     (
         Whole {
             profile: Lenient,
-            question: WholeQuestion::Why,
+            question: WholeQuestion::Why { source: false },
         },
         Case {
             name: "a label is that of the statement itself",
@@ -427,7 +427,7 @@ f.mm:3:11: P2: no earlier statement has the label, in the proof of r
     (
         Whole {
             profile: Lenient,
-            question: WholeQuestion::Why,
+            question: WholeQuestion::Why { source: false },
         },
         Case {
             name: "a label is near to one before, and is stated behind a fault of its own file",

@@ -198,7 +198,7 @@ fn asks_to_run(alloc: Global, words: &[&str], wanted: Command<'_>) -> bool {
 fn asks_by_its_words(rt: HostRuntime) {
     let why = |profile| Command::Whole {
         profile,
-        question: WholeQuestion::Why,
+        question: WholeQuestion::Why { source: false },
     };
     let known = |telling| Command::Lone {
         label: b"th".as_slice(),

@@ -64,8 +64,8 @@ pub enum WholeQuestion {
     Check,
     /// For all its faults, in one run.
     Faults,
-    /// For an explanation of each of them.
-    Why,
+    /// For an explanation of each of them; if `source`, with the line of the file in which it is.
+    Why { source: bool },
     /// What each theorem depends on; if `essential`, of the axioms those alone that have its type
     /// code.
     Axioms { essential: bool },

@@ -68,7 +68,7 @@ pattern_rule = record (new_rule (codes "PATTERN")) {
 }
 
 -- a flag: `--file`, `--all`, `--list`, `--duplicates`, `--known`, `--essential`, `--uses`,
--- `--whole`, `--shape`, `--hypotheses` or `--strict`
+-- `--whole`, `--shape`, `--hypotheses`, `--strict` or `--source`
 abbrev pub flag_rule : Text → Rule
 flag_rule name = record (new_rule name) {
   long = Some name;
@@ -123,9 +123,9 @@ check_line = profile_line (codes "check")
 abbrev pub faults_line : App
 faults_line = profile_line (codes "faults")
 
--- `why [--strict] FILES..`
+-- `why [--strict] [--source] FILES..`
 abbrev pub why_line : App
-why_line = profile_line (codes "why")
+why_line = with_rule (profile_line (codes "why")) (flag_rule (codes "source"))
 
 -- a question about the theorem with a label: the command's name, and then `LABEL FILES..`
 abbrev pub question_line : Text → App
@@ -301,7 +301,8 @@ proofs_line =
 abbrev pub versions_line : App
 versions_line = with_subcommand proofs_line diff_line.top
 
--- `mm check [--strict] FILES..`, `mm faults [--strict] FILES..`, `mm why [--strict] FILES..`,
+-- `mm check [--strict] FILES..`, `mm faults [--strict] FILES..`,
+-- `mm why [--strict] [--source] FILES..`,
 -- `mm axioms [--essential | --to AXIOM] LABEL FILES..`, `mm axioms --all FILES..`,
 -- `mm users [--all] LABEL FILES..`, `mm statement LABEL FILES..`, `mm statement --all FILES..`,
 -- `mm find PATTERN [--and PATTERN].. [--whole] [--shape] [--hypotheses] FILES..`,
@@ -381,6 +382,14 @@ abbrev pub AsksUnder : Text → List Text → Profile → List Text → Type 0
 AsksUnder name words profile names =
     (rows : List Row) × Commands words name rows
     × IsGiven (codes "strict") rows (is_strict profile)
+    × (unwrap_or (all_of (codes "FILES") rows) [] ≡ names)
+
+-- They ask by `why` about the files with these names under this profile, if so it is said with lines
+-- of the files.
+abbrev pub AsksWhy : List Text → (source : Bool) → Profile → List Text → Type 0
+AsksWhy words source profile names =
+    (rows : List Row) × Commands words (codes "why") rows
+    × IsGiven (codes "strict") rows (is_strict profile) × IsGiven (codes "source") rows source
     × (unwrap_or (all_of (codes "FILES") rows) [] ≡ names)
 
 -- They ask, by the command with this name, for the proof of the theorem with this label in the files
@@ -679,7 +688,7 @@ AsksDiffAmiss words =
 abbrev pub AsksWhole : List Text → WholeQuestion → Profile → List Text → Type 0
 AsksWhole words Check profile names = AsksUnder (codes "check") words profile names
 AsksWhole words Faults profile names = AsksUnder (codes "faults") words profile names
-AsksWhole words Why profile names = AsksUnder (codes "why") words profile names
+AsksWhole words (Why source) profile names = AsksWhy words source profile names
 AsksWhole words (Axioms essential) profile names =
     (profile ≡ Lenient) × AsksAxioms words true essential None names
 AsksWhole words Shorter profile names =

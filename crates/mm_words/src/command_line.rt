@@ -87,6 +87,8 @@ pub(crate) const USES: &str = "uses";
 
 pub(crate) const STRICT: &str = "strict";
 
+pub(crate) const SOURCE: &str = "source";
+
 pub(crate) const TO: &str = "to";
 
 pub(crate) const AND: &str = "and";
@@ -251,8 +253,9 @@ fn why_command<'a>(alloc: Global) -> Result<Command<'a>, AllocError>
         alloc,
         WHY,
         "explains the faults of a database",
-        "mm why [--strict] FILES..",
-    )
+        "mm why [--strict] [--source] FILES..",
+    )?
+    .arg(flag_argument(alloc, SOURCE))
 }
 
 /// A command that asks about the statement with a label, for `clap`.

@@ -10,8 +10,8 @@ ghost use Rattle.mm_step.specs.declared.profile.Profile.{Profile};
 use crate::axioms_request::axioms_request;
 use crate::command_line::{
     ALL, AXIOMS, CHECK, CODE, COMMAND, DIFF, EXPLAIN, FAULTS, FILES, FIND, HELP, LABEL, LEMMAS,
-    MEND, MINIMIZE, NORMAL, PACKED, PROOF, SAME, SHOW, SMALL, STATEMENT, STRICT, TRY, USERS,
-    VERSION, WHY, whole_command,
+    MEND, MINIMIZE, NORMAL, PACKED, PROOF, SAME, SHOW, SMALL, SOURCE, STATEMENT, STRICT, TRY,
+    USERS, VERSION, WHY, whole_command,
 };
 use crate::diff_request::diff_request;
 use crate::find_request::{find_request, statement_request};
@@ -46,6 +46,22 @@ fn whole_request<'a>(
         },
         names: values_of(alloc, matches, FILES)?,
     })
+}
+
+/// What the matches of the command `why` ask for.
+fn why_request<'a>(alloc: Global, matches: &ArgMatches<'a>) -> Result<Request<'a>, AllocError>
+    ensures { IfOk result (λ request. (words : List Text)
+        → Commands words (codes "why") (rows_of (found_of matches.now))
+        → Asks words request) }
+{
+    let profile = asked_profile(matches, STRICT);
+    let source = is_given(matches, SOURCE);
+    let names = values_of(alloc, matches, FILES)?;
+    let command = mm_verdict::Command::Whole {
+        profile,
+        question: WholeQuestion::Why { source },
+    };
+    Ok(Request::Run { command, names })
 }
 
 /// What the matches of the command `users` ask for.
@@ -178,7 +194,7 @@ fn request_of_matches<'a>(
         return Ok(whole_request(alloc, faults, WholeQuestion::Faults)?);
     }
     if let Some(why) = matches.subcommand_matches(WHY) {
-        return Ok(whole_request(alloc, why, WholeQuestion::Why)?);
+        return Ok(why_request(alloc, why)?);
     }
     if let Some(axioms) = matches.subcommand_matches(AXIOMS) {
         return axioms_request(alloc, axioms);

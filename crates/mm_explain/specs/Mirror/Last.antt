@@ -40,10 +40,10 @@ pub record IsBegin (files : List PlainFile) (file at : ℕ) (begin : Option ℕ)
   pub same : begin ≡ unclosed_in file ending
 
 -- the facts are written of where what the fault stands in began
-pub record TellsOrigins (files : List PlainFile) (statements : List PlainStatement)
+pub record TellsOrigins (source : Bool) (files : List PlainFile) (statements : List PlainStatement)
     (fault : PlainFault) (old new : List ℕ) : Type 0 where
   pub details : List Detail
-  pub begun : AreOrigins files statements fault fault.rule details
+  pub begun : AreOrigins source files statements fault fault.rule details
   pub put : new ≡ old ++ details_text details
 
 -- the token is that of the `${` of the innermost block that is open after these statements, if one is

@@ -1,7 +1,7 @@
 -- What the code knows of the faults that it has explained. This file mirrors the code, and is cited
 -- by private contracts alone.
 use Rattle.std.specs.Prelude.{◌≡◌, ℕ, ◌<◌, ◌≤◌, List, [], ◌∷◌, ◌++◌, map, take, length}
-use Rattle.std.specs.Prelude.{true, Option, option_map, ◌⊎◌}
+use Rattle.std.specs.Prelude.{Bool, true, Option, option_map, ◌⊎◌}
 use Rattle.std.specs.List.{flat_map, AllZip, AllByRecursion}
 use Rattle.mm_base.specs.declared.token.Token.{Token}
 use Rattle.mm_base.specs.Token.{PlainToken, plain_token}
@@ -38,11 +38,12 @@ pub record IsRefusedLast (profile : Profile) (files : List PlainFile) (told : Li
 
 -- The text explains the refusal of the statement that was told last, but for where this label, at
 -- which its proof breaks P2, is stated further down.
-abbrev pub IsExplainedBut : Profile → List PlainFile → List Sentence → PlainStatement → PlainRefusal
-    → (label : Option (List ℕ)) → (text : List ℕ) → Type 0
-IsExplainedBut profile files told s refusal label text =
+abbrev pub IsExplainedBut : Profile → (source : Bool) → List PlainFile → List Sentence
+    → PlainStatement → PlainRefusal → (label : Option (List ℕ)) → (text : List ℕ) → Type 0
+IsExplainedBut profile source files told s refusal label text =
     (r : IsRefusedLast profile files told s refusal)
-    × IsExplanation profile files refusal (text ++ details_text (stated_later files label r.after))
+    × IsExplanation profile source files refusal
+    (text ++ details_text (stated_later files label r.after))
 
 -- these are the labels of all statements of the files
 pub record AreLabelsIn (files : List PlainFile)
@@ -58,41 +59,44 @@ AreKeptLabels files labels =
     (labels ≡ []) ⊎ AreLabelsIn files (map (option_map plain_token) labels)
 
 -- The text is the explanations of the first of these refusals, all of which are of proofs.
-pub record AreExplained (profile : Profile) (files : List PlainFile)
+pub record AreExplained (profile : Profile) (source : Bool) (files : List PlainFile)
     (refusals : List PlainRefusal) (text : List ℕ) : Type 0 where
   pub proofs : AllByRecursion (λ r. is_of_proofs r.rule ≡ true) refusals
   pub explanations : List (List ℕ)
-  pub each : AllZip (IsExplanation profile files) (take most_explained refusals) explanations
+  pub each : AllZip (IsExplanation profile source files) (take most_explained refusals) explanations
   pub said : text ≡ flat_map (λ t. t) explanations
 
 -- the refusals listed are those kept, and they are explained
 pub record HasExplained (profile : Profile) (files : List PlainFile) (first now : Reasons)
     (taken : List PlainStatement) (listed : List PlainRefusal) : Type 0 where
   pub same_profile : now.profile ≡ profile
+  pub same_source : now.source ≡ first.source
   pub same_files : map plain_file now.files.now ≡ files
   pub kept : map plain_refusal now.refusals.items ≡ listed
-  pub explained : AreExplained profile files listed now.text.items
+  pub explained : AreExplained profile first.source files listed now.text.items
   pub labels : AreKeptLabels files now.labels.items
 
 -- The refusal of a proof is kept with the others, and it is explained unless enough are.
 pub record Notes (old : Reasons) (refusal : Refusal) (new : Reasons) : Type 0 where
   pub same_profile : new.profile ≡ old.profile
+  pub same_source : new.source ≡ old.source
   pub same_files : new.files ≡ old.files
   pub kept : new.refusals.items ≡ old.refusals.items ++ refusal ∷ []
   pub few : length old.refusals.items < most_explained
       → (text : List ℕ)
-      × IsExplanation old.profile (map plain_file old.files.now) (plain_refusal refusal) text
+      × IsExplanation old.profile old.source (map plain_file old.files.now)
+      (plain_refusal refusal) text
       × (new.text.items ≡ old.text.items ++ text)
   pub many : most_explained ≤ length old.refusals.items → new.text ≡ old.text
   pub labels : AreKeptLabels (map plain_file old.files.now) new.labels.items
 
 -- Why the files aren't accepted: they can't be taken; or this tells all faults, with the status of
 -- the first; or memory ran out.
-abbrev pub TellsWhy : Profile → List PlainFile → Unaccepted → Type 0
-TellsWhy profile files (why.Load rule) = HasVerdict profile files (Load rule)
-TellsWhy profile files (why.Refused text status) =
+abbrev pub TellsWhy : Profile → (source : Bool) → List PlainFile → Unaccepted → Type 0
+TellsWhy profile source files (why.Load rule) = HasVerdict profile files (Load rule)
+TellsWhy profile source files (why.Refused text status) =
     (first : PlainRefusal) × (others : List PlainRefusal)
     × HaveFaults profile files (first ∷ others)
-    × TellsFaults profile files (first ∷ others) text.items
+    × TellsFaults profile source files (first ∷ others) text.items
     × (number_of status ≡ refusal_status first.rule)
-TellsWhy profile files why.Memory = Unit {0}
+TellsWhy profile source files why.Memory = Unit {0}

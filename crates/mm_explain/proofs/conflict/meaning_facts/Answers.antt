@@ -21,7 +21,7 @@ returns c =
     (let e = stop_count c.requires c.args.refusal.now.statement refl in
     let f = c.in_ok-error.ensures.before in omega arith) in (
       fault ∷ earlier.0,
-      facts_told c.requires c.in_ok-error.error token earlier.0 c.in_ok-error.ensures.error
+      facts_told c.requires c.args.source c.in_ok-error.error token earlier.0 c.in_ok-error.ensures.error
           counted
           (c.meaning_rule-rule.ensures ∙ ap rules.Meaning (sym c.in_ok-error.ensures.rule))
           c.token-token.ensures earlier.1,

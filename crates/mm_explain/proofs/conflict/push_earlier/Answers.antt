@@ -4,8 +4,9 @@ use Rattle.std.proofs.lemmas.Result.{on_ok_weaker}
 use Rattle.mm_text.specs.Files.{PlainFile, plain_file}
 use Rattle.mm_base.specs.Token.{plain_token}
 use Rattle.mm_frame.specs.declared.rule.MeaningRule.{MeaningRule}
-use Rattle.mm_facts.specs.Explained.{Detail, block_opened}
+use Rattle.mm_facts.specs.Explained.{Detail}
 use Rattle.mm_explain.specs.MeaningFacts.{AreEarlierFacts, met_facts}
+use Rattle.mm_explain.specs.Source.{opened_block}
 use Rattle.mm_facts.specs.MeaningFacts.{met_as}
 use Rattle.mm_rules.specs.Places.{token_place}
 use Rattle.mm_explain.specs.Mirror.SemanticErrors.{IsBroken}
@@ -25,16 +26,17 @@ pub returns-in_ok-block-in-M1 : goal.returns-in_ok-block-in-M1
 returns-in_ok-block-in-M1 c =
     let files : List PlainFile = map plain_file c.args.files.now in
     let t = plain_token c.in_ok-block-in-M1.block in
-    let details : List Detail = block_opened (token_place files t) ∷ [] in
-    on_ok_weaker c.push_block.result (λ text. (
+    let details : List Detail = opened_block c.args.source files t ∷ [] in
+    on_ok_weaker c.push_open_block.result (λ text. (
       details,
       (λ site. subst
-          (λ (r : MeaningRule). AreEarlierFacts files r site.before site.s c.args.error.now.index details)
+          (λ (r : MeaningRule). AreEarlierFacts c.args.source files r site.before site.s c.args.error.now.index details)
           (sym c.in-M1.is)
-          (block_there files site.before site.s c.args.error.now.index t
+          (block_there c.args.source files site.before site.s c.args.error.now.index t
           (c.in_ok-block-in-M1.ensures site))),
-      one_told c.args.out.now.items c.push_block.new.out.items (block_opened (token_place files t)) text,
-    )) c.push_block.ensures
+      one_told c.args.out.now.items c.push_open_block.new.out.items
+          (opened_block c.args.source files t) text,
+    )) c.push_open_block.ensures
 
 pub returns-in-Some : goal.returns-in-Some
 returns-in-Some c =
@@ -42,7 +44,7 @@ returns-in-Some c =
     let rule : MeaningRule = c.args.error.now.rule in
     on_ok_weaker c.push_met.result (λ text. (
       met_as rule (token_place files (plain_token c.in-Some.token)) ∷ [],
-      (λ site. of_names files rule site.before site.s c.args.error.now.index _ c.in_default.not-M1
+      (λ site. of_names c.args.source files rule site.before site.s c.args.error.now.index _ c.in_default.not-M1
           (ap (met_facts files rule) (rw c.in-Some.is at (c.in_ok-token-in_default.ensures site)))),
       one_told c.args.out.now.items c.push_met.new.out.items
           (met_as rule (token_place files (plain_token c.in-Some.token))) text,
@@ -53,7 +55,7 @@ returns-in-None c =
     let files : List PlainFile = map plain_file c.args.files.now in
     let rule : MeaningRule = c.args.error.now.rule in (
       [],
-      (λ site. of_names files rule site.before site.s c.args.error.now.index [] c.in_default.not-M1
+      (λ site. of_names c.args.source files rule site.before site.s c.args.error.now.index [] c.in_default.not-M1
           (ap (met_facts files rule) (rw c.in-None.is at (c.in_ok-token-in_default.ensures site)))),
       sym (append-nil c.args.out.now.items),
     )

@@ -13,7 +13,7 @@ begin_before-requires c = c.requires.readable
 
 pub returns-in_ok-closed-in-S6 : goal.returns-in_ok-closed-in-S6
 returns-in_ok-closed-in-S6 c =
-    block_told (map plain_file c.args.files.now) (plain_refusal c.args.refusal.now)
+    block_told c.args.source (map plain_file c.args.files.now) (plain_refusal c.args.refusal.now)
     c.args.out.now.items c.push_block.new.out.items c.push_block.result
     (option_map plain_token c.in_ok-closed-in-S6.closed)
     (sym c.rule_in.ensures ∙ ap rules.Text c.in-S6.is)
@@ -22,7 +22,7 @@ returns-in_ok-closed-in-S6 c =
 
 pub returns-in_ok-begin-in_default : goal.returns-in_ok-begin-in_default
 returns-in_ok-begin-in_default c =
-    begin_told (map plain_file c.args.files.now) (plain_refusal c.args.refusal.now)
+    begin_told c.args.source (map plain_file c.args.files.now) (plain_refusal c.args.refusal.now)
     c.args.out.now.items c.push_begin-in_default.new.out.items c.push_begin-in_default.result
     c.in_ok-begin-in_default.begin
     (λ is. let same = c.rule_in.ensures ∙ is in absurd (c.in_default.not-S6 cc))
@@ -35,7 +35,7 @@ open_block-requires c = c.requires.readable
 
 pub returns-in_ok-block-in-X6 : goal.returns-in_ok-block-in-X6
 returns-in_ok-block-in-X6 c =
-    opened_told (map plain_file c.args.files.now) (plain_refusal c.args.refusal.now)
+    opened_told c.args.source (map plain_file c.args.files.now) (plain_refusal c.args.refusal.now)
     c.args.out.now.items c.push_opened.new.out.items c.push_opened.result
     c.in_ok-begin-in-X6.begin c.in_ok-block-in-X6.block c.push_begin.new.out.items
     (sym c.rule_in.ensures ∙ ap rules.Text c.in-X6.is)

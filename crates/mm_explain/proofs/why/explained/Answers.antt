@@ -21,7 +21,7 @@ pub returns-in-Ok-clause-why : goal.returns-in-Ok-clause-why
 returns-in-Ok-clause-why c =
     let v = c.in-Ok.ensures.visited in
     let reasons = c.judge_files.new.visitor in
-    tells_why c.args.profile (map plain_file c.args.files.now) v.listed reasons.refusals.items []
+    tells_why c.args.profile c.args.source (map plain_file c.args.files.now) v.listed reasons.refusals.items []
     reasons.text.items c.tell_more.new.self.text.items c.tell_more.new.self.text.items
     c.in_ok-text-in-Ok.text.items (number_of c.in_ok-text-in-Ok.status)
     (rw (append-nil v.listed) v.faults) v.seen.kept v.seen.explained tt
@@ -60,9 +60,15 @@ returns-in-Err-Refused-clause-why c =
     let all : c.tell_last.new.self.refusals.items ≡ reasons.refusals.items ++ last ∷ [] =
     (rw c.in-Err-Refused.field-0-is at c.in_ok-tell_last-in-Err-Refused.ensures.kept)
     ∙ ap (λ r. r.items ++ last ∷ []) told.kept in
-    let (text, explains, put) = rw (told.files, m.seen.same_files, c.in-Err-Refused.field-0-is)
+    let (text, explains, put) = rw (
+      told.source,
+      m.seen.same_source,
+      told.files,
+      m.seen.same_files,
+      c.in-Err-Refused.field-0-is,
+    )
     at c.in_ok-tell_last-in-Err-Refused.ensures.explained in
-    tells_why c.args.profile files m.listed reasons.refusals.items (last ∷ []) reasons.text.items
+    tells_why c.args.profile c.args.source files m.listed reasons.refusals.items (last ∷ []) reasons.text.items
     c.tell_more-in-Err-Refused.new.self.text.items c.tell_last.new.self.text.items
     c.in_ok-text-in-Err-Refused.text.items (number_of c.in_ok-text-in-Err-Refused.status)
     (rw none at m.faults) m.seen.kept m.seen.explained (other, tt)

@@ -9,7 +9,7 @@ use Rattle.mm_step.specs.Plain.{token_texts}
 use Rattle.mm_rules.specs.Answer.{plain_refusal}
 use Rattle.mm_rules.specs.Verdict.{proof_of, sentences}
 use Rattle.mm_rules.proofs.Judgements.JudgedProofs.{texts_of}
-use Rattle.mm_explain.specs.Why.{head_text}
+use Rattle.mm_explain.specs.Why.{head_lines}
 use Rattle.mm_explain.specs.Unused.{AreUnused, unused_text}
 use Rattle.mm_facts.specs.Explained.{details_text}
 use Rattle.mm_facts.specs.Mirror.Explaining.{IsCauseOf}
@@ -49,7 +49,7 @@ fault_place-requires-clause-cause c =
     let r = c.requires.refused in
     let same = ap token_texts c.deref.ensures.value
     ∙ texts_of c.args.statement.now.proof.items in (
-      c.args.profile,
+      c.args.manner.profile,
       c.args.book.now.statements,
       c.last_number-id.result.0,
       length (sentences r.before),
@@ -57,7 +57,7 @@ fault_place-requires-clause-cause c =
       c.fault_in-fault.result.1,
       c.last_number-id.ensures (sentences r.before) (told_parts r),
       subst
-          (λ (ts : List (List ℕ)). IsCauseOf c.args.profile c.args.book.now.statements
+          (λ (ts : List (List ℕ)). IsCauseOf c.args.manner.profile c.args.book.now.statements
           c.last_number-id.result.0 ts c.fault_in-fault.result.0 c.fault_in-fault.result.1
           c.in_ok-cause.cause)
           same c.in_ok-cause.ensures.cause,
@@ -84,7 +84,7 @@ push_hypothesis_places-requires c =
 pub unknown_label-requires : goal.unknown_label-requires
 unknown_label-requires c =
     let r = c.requires.refused in (
-      c.args.profile,
+      c.args.manner.profile,
       c.args.book.now.statements,
       c.last_number-id.result.0,
       length (sentences r.before),
@@ -112,37 +112,38 @@ returns c =
     let placed : List PlainToken = map plain_token c.deref.result.now in
     let own_cause =
     subst
-    (λ (ts : List (List ℕ)). IsCauseOf c.args.profile st id ts rule step c.in_ok-cause.cause) own
+    (λ (ts : List (List ℕ)). IsCauseOf c.args.manner.profile st id ts rule step c.in_ok-cause.cause) own
     caused in
-    let place = c.fault_place.ensures c.args.profile st id index rule step mine own_cause in
+    let place = c.fault_place.ensures c.args.manner.profile st id index rule step mine own_cause in
     let standing = refused_place r id (c.args.refusal.now.statement - 1) refl mine in
     let (details, facts, put) =
     c.in_ok-push_cause.ensures files placed step
     (subst
-    (λ (ts : List (List ℕ)). IsCauseOf c.args.profile st id ts rule step c.in_ok-cause.cause)
+    (λ (ts : List (List ℕ)). IsCauseOf c.args.manner.profile st id ts rule step c.in_ok-cause.cause)
     (texts_of c.deref.result.now) caused)
     c.in_ok-cause.ensures.told index (sentence_of s) mine in
-    let head = head_text files c.fault_place.result (plain_refusal c.args.refusal.now) in
-    let (places, stand, more) = c.in_ok-push_hypothesis_places.ensures standing c.args.profile step
+    let head = head_lines c.args.manner.source files c.fault_place.result
+    (plain_refusal c.args.refusal.now) in
+    let (places, stand, more) = c.in_ok-push_hypothesis_places.ensures standing c.args.manner.profile step
     own_cause in
     let again = ap token_texts (c.deref.ensures.value ∙ sym c.deref-2.ensures.value) in
-    let (unused, by_none, last) = c.in_ok-push_unused.ensures c.args.profile id rule step
+    let (unused, by_none, last) = c.in_ok-push_unused.ensures c.args.manner.profile id rule step
     (subst
-    (λ (ts : List (List ℕ)). IsCauseOf c.args.profile st id ts rule step c.in_ok-cause.cause)
+    (λ (ts : List (List ℕ)). IsCauseOf c.args.manner.profile st id ts rule step c.in_ok-cause.cause)
     again caused)
     index (sentence_of s) mine in (
       head ++ details_text (details ++ places) ++ unused_text unused,
-      explained_there r id mine tokens own placed
+      explained_there r id mine c.args.manner.source tokens own placed
           (ap (map plain_token) c.deref.ensures.value) rule step c.fault_in-fault.ensures.rule
           c.fault_in-fault.ensures.step c.fault_place.result place details facts places stand
           unused
           (subst (λ (ts : List (List ℕ)). AreUnused (take index st) (sentence_of s) ts step unused)
           (sym again) by_none)
           (option_map (λ l. l.now) c.unknown_label.result)
-          (c.unknown_label.ensures c.args.profile st id index (sentence_of s) tokens step mine
+          (c.unknown_label.ensures c.args.manner.profile st id index (sentence_of s) tokens step mine
           caused),
       explanation_told c.args.out.now.items head details places (unused_text unused)
-          c.push_head.new.out.items c.push_cause.new.out.items
+          c.push_head_lines.new.out.items c.push_cause.new.out.items
           c.push_hypothesis_places.new.out.items c.push_unused.new.out.items
-          c.in_ok-push_head.ensures put more last,
+          c.in_ok-push_head_lines.ensures put more last,
     )

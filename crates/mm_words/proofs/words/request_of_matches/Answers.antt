@@ -21,11 +21,10 @@ returns-in-Some-subcommand_matches-clause-request c = λ words met.
 pub returns-in-Some-subcommand_matches-2-clause-request :
     goal.returns-in-Some-subcommand_matches-2-clause-request
 returns-in-Some-subcommand_matches-2-clause-request c = λ words met.
-    c.in_ok-whole_request-3.ensures words _
+    c.in_ok-why_request.ensures words
     (commands_met words c.args.matches.now _ _ met
     (c.in-Some-subcommand_matches-2.ensures.found.0 refl)
     c.in-Some-subcommand_matches-2.ensures.rows)
-    (λ profile names asks. asks)
 
 pub returns-in-Some-subcommand_matches-3-clause-request :
     goal.returns-in-Some-subcommand_matches-3-clause-request

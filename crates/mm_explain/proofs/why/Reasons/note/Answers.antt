@@ -14,6 +14,7 @@ returns c =
     on_ok_weaker c.keep-2.result
     (λ kept. record {
       same_profile = put.profile ∙ told.profile;
+      same_source = put.source ∙ told.source;
       same_files = put.files ∙ told.files;
       kept = kept ∙ ap (λ r. r.items ++ c.args.refusal ∷ []) told.kept;
       few = λ less. (
