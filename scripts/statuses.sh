@@ -283,6 +283,10 @@ printf '${\n\t$c\ta $.\r\n' >tabs.mm
 ends 1 'tabs.mm:2:2: M1: a $c stands in a block\n  | \t$c\ta $.\n  | \t^\n  token: $c\ntabs.mm:1:1: the block is opened here, and not closed\n  | ${\n  | ^\n1 fault\n' '' \
     why --strict --source tabs.mm
 ends 1 'tabs.mm:2:2: M1: a $c stands in a block\n  token: $c\ntabs.mm:1:1: the block is opened here, and not closed\n1 fault\n' '' why tabs.mm
+printf '$c a $.\np $p a $= nope $.\nq $p a $= nope $.\nr $p a $= nope $.\n' >three.mm
+p2='P2: no earlier statement has the label, in the proof of'
+ends 1 "all 3 faulty proofs name nope\nthree.mm:2:11: $p2 p\n  token: nope\n\
+three.mm:3:11: $p2 q\n  token: nope\nthree.mm:4:11: $p2 r\n  token: nope\n3 faults\n" '' why three.mm
 ends 0 'yes 3 statements 1 proofs\n' '' why loose.mm
 ends 3 'incomplete 1\nq\n' '' why open.mm
 ends 4 'load F2\n' '' why first.mm first.mm

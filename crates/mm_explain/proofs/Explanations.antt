@@ -1,12 +1,15 @@
 -- Explanations of faults: how their text is put together, and that it is what they are to say.
-use Rattle.std.proofs.Common.{◌≡◌, ℕ, ◌-◌, ◌<◌, ◌≤◌, List, [], ◌∷◌, ◌++◌, map, take}
+use Rattle.std.proofs.Common.{◌≡◌, ℕ, ◌+◌, ◌-◌, ◌<◌, ◌≤◌, min}
+use Rattle.std.proofs.Common.{List, [], ◌∷◌, ◌++◌, map, take}
+use Rattle.std.specs.Global.{Vec}
 use Rattle.std.proofs.Common.{filter, flat_map, length, length-append, append_assoc, append-nil}
 use Rattle.std.proofs.Common.{not}
 use Rattle.std.proofs.Common.{Bool, true, false, Option, Some, refl, sym, ap, subst, ◌∙◌, arith}
 use Rattle.std.proofs.Common.{inl, inr, slice_get, ◌&&◌, ◌==◌, codes, decimal}
 use Rattle.std.specs.List.{AllByRecursion, AllZip, sum_by}
 use Rattle.std.proofs.lemmas.Bool.{cases_lt, eqb-true, false_from_ne_true}
-use Rattle.std.proofs.lemmas.List.{take_all, take-append-le, map-append, length-map}
+use Rattle.std.proofs.lemmas.List.{take_all, take-append-le, take_min, take-map, map-append}
+use Rattle.std.proofs.lemmas.List.{length-map, take-take}
 use Rattle.std.proofs.lemmas.List.Elements.{filter-append}
 use Rattle.std.proofs.lemmas.Grind.{flat_map-append}
 use Rattle.mm_base.specs.declared.statement.Kind.TheVariants.{Provable}
@@ -14,8 +17,9 @@ use Rattle.mm_base.specs.declared.file.File.{File}
 use Rattle.mm_base.specs.Token.{PlainToken}
 use Rattle.mm_base.specs.Statement.{PlainStatement, HasForm, is_provable}
 use Rattle.mm_text.specs.Files.{PlainFile, plain_file}
+use Rattle.mm_text.specs.Reading.{PlainFault, Reads}
 use Rattle.mm_base.specs.MostBytes.{most_bytes}
-use Rattle.mm_base.proofs.Lists.{all_push, zip_push, get_pushed, get_parted}
+use Rattle.mm_base.proofs.Lists.{all_push, zip_push, zip_take, get_pushed, get_parted}
 use Rattle.mm_frame.specs.declared.number.LabelId.{LabelId}
 use Rattle.mm_frame.specs.declared.answer.Found.{Found}
 use Rattle.mm_frame.specs.declared.answer.Found.TheVariants as found
@@ -29,11 +33,14 @@ use Rattle.mm_step.specs.declared.profile.Profile.{Profile}
 use Rattle.mm_proof.specs.Tokens.{is_incomplete}
 use Rattle.mm_step.specs.Steps.{IsProofNumber}
 use Rattle.mm_rules.specs.declared.fault.Refusal.{Refusal}
-use Rattle.mm_rules.specs.Verdict.{PlainRefusal, sentences, proof_of, IsProofFault}
+use Rattle.mm_rules.specs.Verdict.{CanBeRead, PlainRefusal, sentences, proof_of, IsProofFault}
 use Rattle.mm_rules.specs.Answer.{plain_refusal}
-use Rattle.mm_explain.specs.Why.{IsExplanation, IsLastExplanation, TellsFaults}
+use Rattle.mm_explain.specs.Why.{IsExplanation, IsLastExplanation, TellsFaults, TellsProofs}
 use Rattle.mm_verdict.specs.Why.{is_of_proofs}
 use Rattle.mm_explain.specs.Why.{most_explained, head_lines}
+use Rattle.mm_groups.specs.Shared.{AreLabelsAt, AreLabelsOf, IsSharedLine, Labels}
+use Rattle.mm_groups.specs.Mirror.Kept.{HasShared}
+use Rattle.mm_groups.specs.declared.shared.Shared.{Shared}
 use Rattle.mm_facts.specs.Why.{IsFaultPlace}
 use Rattle.mm_explain.specs.Why.{listing_words, more_text, count_text}
 use Rattle.mm_facts.specs.Explained.{IsTokensFault, Detail, AreDetails, detail_text, details_text}
@@ -45,7 +52,7 @@ use Rattle.mm_rules.specs.declared.judge.Judged.TheVariants.{Faulty}
 use Rattle.mm_rules.specs.Mirror.Visits.{IsMet, refusals_in}
 use Rattle.mm_rules.specs.declared.rule.Rule.TheVariants as rules
 use Rattle.mm_explain.specs.Mirror.Reasons.{IsRefusedLast, IsExplainedBut, AreExplained, Notes}
-use Rattle.mm_explain.specs.Mirror.Reasons.{HasExplained}
+use Rattle.mm_explain.specs.Mirror.Reasons.{AreNoted, Explains, HasExplained, most_kept, texts_in}
 use Rattle.mm_explain.specs.Mirror.Standing.{IsPlaced}
 use Rattle.mm_explain.specs.HypothesisPlaces.{AreHypothesisPlaces}
 use Rattle.mm_explain.specs.Unused.{AreUnused, unused_text}
@@ -292,18 +299,14 @@ module _ {profile : Profile} {files : List PlainFile} {told : List Sentence} {s 
           )
 
 -- the label that is stated further down is told behind it
-pub explained_later : {profile : Profile} {source : Bool} {files : List PlainFile}
-    {told : List Sentence} {s : PlainStatement} {refusal : PlainRefusal} (label : Option (List ℕ)) (text : List ℕ)
-    (b : IsExplainedBut profile source files told s refusal label text) (old middle new : List ℕ)
-    → middle ≡ old ++ text
-    → new ≡ middle ++ details_text (stated_later files label b.0.after)
-    → (whole : List ℕ) × IsExplanation profile source files refusal whole × (new ≡ old ++ whole)
-explained_later {files} label text (r, explains) old middle new first put =
-    let later : List ℕ = details_text (stated_later files label r.after) in (
-      text ++ later,
-      explains,
-      put ∙ ap (λ m. m ++ later) first ∙ append_assoc old text later,
-    )
+pub explained_later : {profile : Profile} {source : Bool} {files : List PlainFile} {told : List Sentence}
+    {s : PlainStatement} {refusal : PlainRefusal} (label : Option (List ℕ)) (text : List ℕ)
+    (b : IsExplainedBut profile source files told s refusal label text) (middle new : List ℕ)
+    → middle ≡ text → new ≡ middle ++ details_text (stated_later files label b.0.after)
+    → IsExplanation profile source files refusal new
+explained_later {profile} {source} {files} {refusal} label text (r, explains) middle new first put =
+    let later : List ℕ = details_text (stated_later files label r.after) in
+    subst (IsExplanation profile source files refusal) (sym (put ∙ ap (λ m. m ++ later) first)) explains
 
 -- ==== the refusals that are kept
 
@@ -322,43 +325,85 @@ refused_last profile files taken listed told s refusal met = record {
   refused = met.came;
 }
 
+-- what its proof shares with the others
+pub noted_more : (files : List PlainFile) (refusal : PlainRefusal) (before : List PlainStatement)
+    (s : PlainStatement) (after : List PlainStatement) (ending : Option PlainFault)
+    (old new : Shared) → Reads files (before ++ s ∷ after) ending
+    → refusal.statement ≡ length before + 1
+    → (labels : Labels) × AreLabelsOf (sentences before) s labels
+    × ((each : List Labels) → HasShared each old → HasShared (each ++ labels ∷ []) new)
+    → (listed : List PlainRefusal) → AreNoted files listed old
+    → AreNoted files (listed ++ refusal ∷ []) new
+noted_more files refusal before s after ending old new reads place (labels, are, more) listed
+    noted = record {
+      each = noted.each ++ labels ∷ [];
+      are = zip_push (AreLabelsAt files) listed noted.each refusal labels noted.are (record {
+        before = before;
+        s = s;
+        after = after;
+        ending = ending;
+        reads = reads;
+        place = place;
+        are = are;
+      });
+      has = more noted.each noted.has;
+    }
+
+-- no proof is noted at first
+pub nothing_noted : (profile : Profile) (files : List PlainFile) (first : Reasons) → CanBeRead files
+    → first.profile ≡ profile → map plain_file first.files.now ≡ files → first.refusals.items ≡ []
+    → HasShared [] first.shared → first.explanations.items ≡ [] → first.labels.items ≡ []
+    → HasExplained profile files first first [] []
+nothing_noted profile files first readable same_profile same_files none shared unexplained unread =
+    record {
+      readable = readable;
+      same_profile = same_profile;
+      same_source = refl;
+      same_files = same_files;
+      kept = ap (map plain_refusal) none;
+      noted = record { each = []; are = tt; has = shared };
+      explained = record { proofs = tt; each = rw unexplained tt };
+      labels = inl unread;
+    }
+
 -- one more is explained, or kept without
 explained_more : (profile : Profile) (source : Bool) (files : List PlainFile)
-    (listed : List PlainRefusal) (one : PlainRefusal) (old new : List ℕ) → is_of_proofs one.rule ≡ true
-    → (length listed < most_explained
-    → (text : List ℕ) × IsExplanation profile source files one text × (new ≡ old ++ text))
-    → (most_explained ≤ length listed → new ≡ old)
+    (listed : List PlainRefusal) (one : PlainRefusal) (old new : List (List ℕ)) → is_of_proofs one.rule ≡ true
+    → (length listed < most_kept
+    → (text : List ℕ) × IsExplanation profile source files one text × (new ≡ old ++ text ∷ []))
+    → (most_kept ≤ length listed → new ≡ old)
     → AreExplained profile source files listed old
     → AreExplained profile source files (listed ++ one ∷ []) new
 explained_more profile source files listed one old new proof few many explained =
     let proofs = all_push (λ (r : PlainRefusal). is_of_proofs r.rule ≡ true) listed one
     explained.proofs proof in
-    elim (cases_lt (length listed) most_explained) [
+    elim (cases_lt (length listed) most_kept) [
       | inl short ↦
           let (text, explains, put) = few short in
-          let whole : take most_explained (listed ++ one ∷ []) ≡ listed ++ one ∷ [] =
-          take_all most_explained (listed ++ one ∷ [])
+          let whole : take most_kept (listed ++ one ∷ []) ≡ listed ++ one ∷ [] =
+          take_all most_kept (listed ++ one ∷ [])
           (omega (arith, short, length-append listed (one ∷ []))) in
-          let each = rw (take_all most_explained listed (omega (arith, short))) at explained.each in
+          let each = rw (take_all most_kept listed (omega (arith, short))) at explained.each in
           record {
             proofs = proofs;
-            explanations = explained.explanations ++ text ∷ [];
-            each = rw whole (zip_push (IsExplanation profile source files) listed explained.explanations
-                one text each explains);
-            said = rw (
-              put,
-              explained.said,
-              flat_map-append (λ t. t) explained.explanations (text ∷ []),
-              append-nil text,
-            ) refl;
+            each = rw (whole, put) (zip_push (IsExplanation profile source files) listed old one text each
+                explains);
           }
       | inr long ↦ record {
         proofs = proofs;
-        explanations = explained.explanations;
-        each = rw (take-append-le most_explained listed (one ∷ []) long) explained.each;
-        said = many long ∙ explained.said;
+        each = rw (take-append-le most_kept listed (one ∷ []) long, many long) explained.each;
       }
     ]
+
+-- and nothing more is explained then
+pub explained_before : (old middle new : Reasons) (refusal : PlainRefusal)
+    → Explains old refusal middle → new.explanations ≡ middle.explanations
+    → Explains old refusal new
+explained_before old middle new refusal explains same = record {
+  few = λ less. let (text, is, put) = explains.few less in
+      (text, is, ap (λ (v : Vec (Vec ℕ)). texts_in v.items) same ∙ put);
+  many = λ many. same ∙ explains.many many;
+}
 
 -- so the visitor goes on
 pub noted : (profile : Profile) (files : List PlainFile) (first old new : Reasons)
@@ -371,6 +416,7 @@ noted profile files first old new taken listed told s refusal met notes seen =
     let many : length old.refusals.items ≡ length listed =
     sym (length-map old.refusals.items plain_refusal) ∙ ap length seen.kept in
     record {
+      readable = seen.readable;
       same_profile = notes.same_profile ∙ seen.same_profile;
       same_source = notes.same_source ∙ seen.same_source;
       same_files = ap (λ (fs : Bor (List File)). map plain_file fs.now) notes.same_files
@@ -378,11 +424,14 @@ noted profile files first old new taken listed told s refusal met notes seen =
       kept = ap (map plain_refusal) notes.kept
           ∙ map-append plain_refusal old.refusals.items (refusal ∷ [])
           ∙ ap (λ (rs : List PlainRefusal). rs ++ plain_refusal refusal ∷ []) seen.kept;
-      explained = explained_more profile first.source files listed (plain_refusal refusal) old.text.items
-          new.text.items (ap (λ (r : PlainRefusal). is_of_proofs r.rule) met.came.refused)
+      noted = (rw seen.same_files at notes.noted) listed seen.noted;
+      explained = explained_more profile first.source files listed (plain_refusal refusal)
+          (texts_in old.explanations.items) (texts_in new.explanations.items)
+          (ap (λ (r : PlainRefusal). is_of_proofs r.rule) met.came.refused)
           (λ short. rw (seen.same_profile, seen.same_source, seen.same_files)
-          at (notes.few (omega (arith, many, short))))
-          (λ long. ap (λ t. t.items) (notes.many (omega (arith, many, long)))) seen.explained;
+          at (notes.explains.few (omega (arith, many, short))))
+          (λ long. ap (λ (v : Vec (Vec ℕ)). texts_in v.items)
+          (notes.explains.many (omega (arith, many, long)))) seen.explained;
       labels = rw seen.same_files at notes.labels;
     }
 
@@ -396,10 +445,12 @@ passed_over profile files first now taken listed s (Faulty refusal) sound seen =
     absurd (sound refusal refl)
 passed_over profile files first now taken listed s judged sound seen =
     rw (append-nil listed) (record {
+      readable = seen.readable;
       same_profile = seen.same_profile;
       same_source = seen.same_source;
       same_files = seen.same_files;
       kept = seen.kept;
+      noted = seen.noted;
       explained = seen.explained;
       labels = seen.labels;
     })
@@ -423,39 +474,76 @@ of_others (r ∷ rs) all =
     let (none, some) = of_others rs all.1 in
     (rw all.0 none, rw all.0 (ap (λ (l : List PlainRefusal). r ∷ l) some))
 
+-- no more are told than are kept
+fewer_told : (line : List ℕ) → most_explained line ≤ most_kept
+fewer_told [] = omega arith
+fewer_told (b ∷ line) = omega arith
+
+-- the faults of proofs
+pub told_proofs : (profile : Profile) (source : Bool) (files : List PlainFile) (listed : List PlainRefusal)
+    (refusals : List Refusal) (explanations : List (Vec ℕ)) (line text₁ text₂ : List ℕ)
+    (most told more : ℕ) → map plain_refusal refusals ≡ listed
+    → IsSharedLine files listed line
+    → AreExplained profile source files listed (texts_in explanations)
+    → most ≡ most_explained line → told ≡ min most (length explanations)
+    → more ≡ length refusals - most
+    → text₁ ≡ line ++ flat_map (λ t. t) (texts_in (take told explanations))
+    → text₂ ≡ text₁ ++ more_text profile more → TellsProofs profile source files listed text₂
+told_proofs profile source files listed refusals explanations line text₁ text₂ most told more kept shared
+    explained most_is told_is more_is put₁ put₂ =
+    let E : List (List ℕ) = texts_in explanations in
+    let first : texts_in (take told explanations) ≡ take (most_explained line) E =
+    ap (λ n. texts_in (take n explanations)) told_is
+    ∙ ap texts_in (take_min most explanations)
+    ∙ sym (take-map (λ (t : Vec ℕ). t.items) most explanations)
+    ∙ ap (λ n. take n E) most_is in
+    let others : more ≡ length listed - most_explained line =
+    more_is ∙ ap (λ n. length refusals - n) most_is
+    ∙ ap (λ n. n - most_explained line)
+    (sym (length-map refusals plain_refusal) ∙ ap length kept) in
+    record {
+      line = line;
+      shared = shared;
+      explanations = take (most_explained line) E;
+      each = rw (take-take (most_explained line) most_kept listed (fewer_told line)) at
+          (zip_take (IsExplanation profile source files) (take most_kept listed) E (most_explained line)
+          explained.each);
+      said = put₂ ∙ ap (λ t. t ++ more_text profile more) put₁
+          ∙ ap (λ ts. line ++ flat_map (λ t. t) ts ++ more_text profile more) first
+          ∙ ap (λ n. line ++ flat_map (λ t. t) (take (most_explained line) E)
+          ++ more_text profile n) others;
+    }
+
 module _ (profile : Profile) (source : Bool) (files : List PlainFile) (listed : List PlainRefusal)
-    (refusals ends : List Refusal) (text₀ text₁ text₂ text : List ℕ) (status : ℕ)
+    (refusals ends : List Refusal) (proofs text₁ text : List ℕ) (status : ℕ)
     (faults : HaveFaults profile files (listed ++ map plain_refusal ends))
     (kept : map plain_refusal refusals ≡ listed)
-    (explained : AreExplained profile source files listed text₀)
+    (of_proofs_all : AllByRecursion (λ r. is_of_proofs r.rule ≡ true) listed)
+    (tells_proofs : TellsProofs profile source files listed proofs)
     (others : AllByRecursion (λ r. is_of_proofs r.rule ≡ false) (map plain_refusal ends))
-    (put₁ : text₁ ≡ text₀ ++ more_text profile (length refusals - most_explained))
     (told : List (List ℕ)) (ended : AllZip (IsLastExplanation source files) (map plain_refusal ends) told)
-    (put₂ : text₂ ≡ flat_map (λ t. t) told ++ text₁) where
+    (put₁ : text₁ ≡ flat_map (λ t. t) told ++ proofs) where
   tells : (count : ℕ) → count ≡ length (listed ++ map plain_refusal ends)
-      → text ≡ text₂ ++ count_text count
+      → text ≡ text₁ ++ count_text count
       → TellsFaults profile source files (listed ++ map plain_refusal ends) text
   tells count counted put =
       let E : List PlainRefusal = map plain_refusal ends in
-      let (all, none) = of_proofs listed explained.proofs in
+      let (all, none) = of_proofs listed of_proofs_all in
       let (nothing, rest) = of_others E others in
-      let proofs : filter (λ r. is_of_proofs r.rule) (listed ++ E) ≡ listed =
+      let those : filter (λ r. is_of_proofs r.rule) (listed ++ E) ≡ listed =
       filter-append (λ r. is_of_proofs r.rule) listed E ∙ rw (all, nothing) (append-nil listed) in
       let last : filter (λ r. not (is_of_proofs r.rule)) (listed ++ E) ≡ E =
       filter-append (λ r. not (is_of_proofs r.rule)) listed E ∙ rw (none, rest) refl in
-      let long : length refusals ≡ length listed =
-      sym (length-map refusals plain_refusal) ∙ ap length kept in
       record {
-        explanations = explained.explanations;
-        each = rw proofs explained.each;
         last = told;
         ended = rw last ended;
-        said = rw (proofs, ← counted, ← long, put, put₂, put₁, explained.said)
-            (simp append_assoc);
+        proofs = proofs;
+        told = rw those tells_proofs;
+        said = rw (← counted, put, put₁) (simp append_assoc);
       }
 
   pub tells_why : (all : List Refusal) → all ≡ refusals ++ ends → 0 < length all
-      → text ≡ text₂ ++ count_text (length all)
+      → text ≡ text₁ ++ count_text (length all)
       → ((first : Refusal) (more : List Refusal) → all ≡ first ∷ more
       → status ≡ refusal_status first.rule)
       → (first : PlainRefusal) × (more : List PlainRefusal)

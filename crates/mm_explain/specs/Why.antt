@@ -19,6 +19,7 @@ use Rattle.mm_rules.specs.ProofText.{proof_end, proof_tokens}
 use Rattle.mm_rules.specs.Verdict.{PlainRefusal, sentences, proof_of}
 use Rattle.mm_rules.specs.Faults.{IsProofRefusal}
 use Rattle.mm_facts.specs.Explained.{Detail, AreDetails, details_text}
+use Rattle.mm_groups.specs.Shared.{IsSharedLine}
 use Rattle.mm_explain.specs.HypothesisPlaces.{AreHypothesisPlaces}
 use Rattle.mm_explain.specs.LastFacts.{AreLastFacts}
 use Rattle.mm_explain.specs.Later.{IsUnknownIn, stated_later}
@@ -103,9 +104,10 @@ pub record IsLastExplanation (source : Bool) (files : List PlainFile) (refusal :
   pub facts : AreLastFacts source files refusal at details
   pub said : text ≡ head_lines source files at refusal ++ details_text details
 
--- how many faults of proofs are explained
-abbrev pub most_explained : ℕ
-most_explained = 10
+-- how many faults of proofs are explained, below a line that says what they share, or without it
+abbrev pub most_explained : (line : List ℕ) → ℕ
+most_explained [] = 10
+most_explained line = 3
 
 -- the question that lists them under the profile
 abbrev pub listing_words : Profile → List ℕ
@@ -122,16 +124,25 @@ abbrev pub count_text : ℕ → List ℕ
 count_text count =
     if count == 1 then codes "1 fault\n" else (decimal count ++ codes " faults\n")
 
--- The text tells these faults: it explains the one that ended the run, if one did, and the first of
--- those of proofs, counts the others of proofs, and counts all.
+-- The text tells these faults, which are all of proofs: what they share, if that is told, then the
+-- first of them, each explained, and how many others there are.
+pub record TellsProofs (profile : Profile) (source : Bool) (files : List PlainFile)
+    (refusals : List PlainRefusal) (text : List ℕ) : Type 0 where
+  pub line : List ℕ
+  pub shared : IsSharedLine files refusals line
+  pub explanations : List (List ℕ)
+  pub each : AllZip (IsExplanation profile source files) (take (most_explained line) refusals)
+      explanations
+  pub said : text ≡ line ++ flat_map (λ t. t) explanations
+      ++ more_text profile (length refusals - most_explained line)
+
+-- The text tells these faults: it explains the one that ended the run, if one did, tells those of
+-- proofs, and counts all.
 pub record TellsFaults (profile : Profile) (source : Bool) (files : List PlainFile)
     (refusals : List PlainRefusal) (text : List ℕ) : Type 0 where
-  pub explanations : List (List ℕ)
-  pub each : AllZip (IsExplanation profile source files)
-      (take most_explained (filter (λ r. is_of_proofs r.rule) refusals)) explanations
   pub last : List (List ℕ)
   pub ended : AllZip (IsLastExplanation source files)
       (filter (λ r. not (is_of_proofs r.rule)) refusals) last
-  pub said : text ≡ flat_map (λ t. t) last ++ flat_map (λ t. t) explanations
-      ++ more_text profile (length (filter (λ r. is_of_proofs r.rule) refusals) - most_explained)
-      ++ count_text (length refusals)
+  pub proofs : List ℕ
+  pub told : TellsProofs profile source files (filter (λ r. is_of_proofs r.rule) refusals) proofs
+  pub said : text ≡ flat_map (λ t. t) last ++ proofs ++ count_text (length refusals)

@@ -1,6 +1,7 @@
 //! All faults of a database in one run, each with what explains it.
 
-ghost use Rattle.std.specs.Prelude.{◌≡◌, ◌<◌, ◌-◌, ◌++◌, List, ℕ, [], ◌∷◌, map, length, true};
+ghost use Rattle.std.specs.Prelude.{◌≡◌, ◌<◌, ◌++◌, List, ℕ, [], ◌∷◌, map, length, true};
+ghost use Rattle.std.specs.List.{flat_map};
 ghost use Rattle.std.specs.Prelude.{OnOk, IfOk, IfErr, Option, Some, drop, take, option_map};
 ghost use Rattle.mm_base.specs.declared.statement.Kind.TheVariants.{Provable};
 ghost use Rattle.mm_base.specs.Statement.{PlainStatement, plain_statement, HasForm};
@@ -10,14 +11,15 @@ ghost use Rattle.mm_text.specs.Files.{plain_file};
 ghost use Rattle.mm_frame.specs.Sentence.{Sentence, sentence_of};
 ghost use Rattle.mm_step.specs.declared.profile.Profile.{Profile};
 ghost use Rattle.mm_step.specs.Steps.{IsProofNumber};
-ghost use Rattle.mm_rules.specs.Verdict.{CanBeRead, HasVerdict};
+ghost use Rattle.mm_rules.specs.Verdict.{CanBeRead, HasVerdict, PlainRefusal};
 ghost use Rattle.mm_rules.specs.Answer.{plain_refusal, verdict_of_conclusion};
 ghost use Rattle.mm_rules.specs.Status.{number_of};
 ghost use Rattle.mm_explain.specs.Why.{owner_words as owner_words_of, owner_text, step_text};
 ghost use Rattle.mm_explain.specs.Why.{head_at, head_lines, head_text, IsExplanation};
 ghost use Rattle.mm_explain.specs.Why.{IsLastExplanation};
 ghost use Rattle.mm_verdict.specs.Why.{is_of_proofs};
-ghost use Rattle.mm_explain.specs.Why.{most_explained, more_text, count_text};
+ghost use Rattle.mm_explain.specs.Why.{TellsProofs, most_explained as most_explained_of};
+ghost use Rattle.mm_explain.specs.Why.{more_text, count_text};
 ghost use Rattle.mm_explain.specs.Why.{listing_words as listing_words_of};
 ghost use Rattle.mm_verdict.specs.Reply.{refusal_status};
 ghost use Rattle.mm_facts.specs.Explained.{details_text};
@@ -25,7 +27,8 @@ ghost use Rattle.mm_explain.specs.Later.{IsUnknownIn, stated_later};
 ghost use Rattle.mm_facts.specs.Mirror.Explaining.{IsCauseOf};
 ghost use Rattle.mm_explain.specs.Mirror.Last.{EndsRun};
 ghost use Rattle.mm_explain.specs.Mirror.Reasons.{AreKeptLabels, AreLabelsIn, IsExplainedBut};
-ghost use Rattle.mm_explain.specs.Mirror.Reasons.{IsRefusedLast, Notes, TellsWhy};
+ghost use Rattle.mm_explain.specs.Mirror.Reasons.{IsRefusedLast, Explains, Notes, TellsWhy};
+ghost use Rattle.mm_explain.specs.Mirror.Reasons.{AreExplained, AreNoted, TellsLast, texts_in};
 ghost use Rattle.mm_rules.specs.declared.fault.Refusal.{Refusal};
 ghost use Rattle.mm_explain.specs.declared.why.Unaccepted.TheVariants.{Memory};
 ghost use Rattle.mm_rules.specs.declared.rule.Rule.TheVariants.{Proof};
@@ -38,6 +41,7 @@ use crate::unused::push_unused;
 use mm_base::{File, Seed, Statement, Token};
 use mm_facts::{Cause, cause_of, fault_place, push_cause};
 use mm_frame::{Book, Found, LabelId};
+use mm_groups::{Shared, shared_line};
 use mm_rules::{
     CheckFault, Judged, Refusal, Rule, Status, Stop, Visitor, meaning, place_of, push_decimal,
     push_place,
@@ -48,6 +52,9 @@ use std::alloc::{AllocError, Global};
 
 /// How many faults of proofs are explained.
 const MOST_EXPLAINED: usize = 10;
+
+/// How many where it is told what all of them share.
+const MOST_OF_GROUP: usize = 3;
 
 /// Why a database isn't accepted.
 #[derive(Drop)]
@@ -305,27 +312,49 @@ fn push_explanation<'a>(
     Ok(unknown_label(&cause, fault.0))
 }
 
-/// Explains the refusal for the fault that ended the run.
-fn push_last<'a>(
-    out: &mut Vec<u8>,
+/// What explains the refusal for the fault that ended the run.
+fn last_explanation<'a>(
     alloc: Global,
     seed: Seed,
     files: &'a [File<'a>],
     refusal: &Refusal<'a>,
     source: bool,
-) -> Result<(), AllocError>
+) -> Result<Vec<u8>, AllocError>
     requires { EndsRun (map plain_file files.now) (plain_refusal refusal.now) }
-    ensures { OnOk result ((text : List ℕ)
-        × IsLastExplanation source (map plain_file files.now) (plain_refusal refusal.now) text
-        × (out.new.items ≡ out.old.items ++ text)) }
+    ensures { IfOk result (λ text. IsLastExplanation source (map plain_file files.now)
+        (plain_refusal refusal.now) text.items) }
 {
+    let mut text = Vec::new(alloc);
     let (at, facts) = last_facts(alloc, seed, files, refusal, source)?;
-    push_head_lines(out, files, at, refusal, source)?;
-    out.extend_from_slice(&facts)
+    push_head_lines(&mut text, files, at, refusal, source)?;
+    text.extend_from_slice(&facts)?;
+    Ok(text)
 }
 
-/// A visitor that keeps the refusals of all proofs that are at fault, and explains the first of
-/// them.
+/// Appends each of the explanations.
+fn push_explanations(out: &mut Vec<u8>, explanations: &[Vec<u8>]) -> Result<(), AllocError>
+    ensures { OnOk result (out.new.items ≡ out.old.items
+        ++ flat_map (λ t. t) (texts_in explanations.now)) }
+{
+    for text in explanations {
+        out.extend_from_slice(text)?;
+    }
+    Ok(())
+}
+
+/// How many faults of proofs are explained, below this line of what they share, if it is told.
+fn most_explained(line: &[u8]) -> usize
+    ensures { result ≡ most_explained_of line.now }
+{
+    if line.is_empty() {
+        MOST_EXPLAINED
+    } else {
+        MOST_OF_GROUP
+    }
+}
+
+/// A visitor that keeps the refusals of all proofs that are at fault and what they share, and
+/// explains the first of them.
 #[derive(Drop)]
 struct Reasons<'a> {
     alloc: Global,
@@ -335,8 +364,9 @@ struct Reasons<'a> {
     source: bool,
     files: &'a [File<'a>],
     refusals: Vec<Refusal<'a>>,
-    /// The explanations.
-    text: Vec<u8>,
+    /// What all of them share.
+    shared: Shared<'a>,
+    explanations: Vec<Vec<u8>>,
     /// The labels of all statements of the files, once they were asked for.
     labels: Vec<Option<Token<'a>>>,
 }
@@ -346,11 +376,12 @@ impl<'a> Reasons<'a> {
     fn keep(&mut self, refusal: Refusal<'a>) -> Result<(), AllocError>
         ensures kept { OnOk result (self.new.refusals.items
             ≡ self.old.refusals.items ++ refusal.entry ∷ []) }
-        ensures text { self.new.text ≡ self.old.text }
+        ensures shared { self.new.shared ≡ self.old.shared }
+        ensures explanations { self.new.explanations ≡ self.old.explanations }
+        ensures labels { self.new.labels ≡ self.old.labels }
         ensures profile { self.new.profile ≡ self.old.profile }
         ensures source { self.new.source ≡ self.old.source }
         ensures files { self.new.files ≡ self.old.files }
-        ensures labels { self.new.labels ≡ self.old.labels }
     {
         self.refusals.push(refusal)?;
         Ok(())
@@ -364,7 +395,8 @@ impl<'a> Reasons<'a> {
         ensures labels { OnOk result (AreLabelsIn (map plain_file self.old.files.now)
             (map (option_map plain_token) self.new.labels.items)) }
         ensures kept { self.new.refusals ≡ self.old.refusals }
-        ensures text { self.new.text ≡ self.old.text }
+        ensures shared { self.new.shared ≡ self.old.shared }
+        ensures explanations { self.new.explanations ≡ self.old.explanations }
         ensures profile { self.new.profile ≡ self.old.profile }
         ensures source { self.new.source ≡ self.old.source }
         ensures files { self.new.files ≡ self.old.files }
@@ -376,28 +408,75 @@ impl<'a> Reasons<'a> {
     }
 
     /// Tells where a label is stated further down than the statement with a number, from 1 on.
-    fn tell_later(&mut self, label: &[u8], number: usize) -> Result<(), AllocError>
+    fn tell_later(
+        &mut self,
+        out: &mut Vec<u8>,
+        label: &[u8],
+        number: usize,
+    ) -> Result<(), AllocError>
         requires readable { CanBeRead (map plain_file self.old.files.now) }
         requires labels { AreKeptLabels (map plain_file self.old.files.now)
             self.old.labels.items }
         ensures told { OnOk result ((statements : List PlainStatement)
             (ending : Option PlainFault)
             → Reads (map plain_file self.old.files.now) statements ending
-            → self.new.text.items ≡ self.old.text.items
+            → out.new.items ≡ out.old.items
             ++ details_text (stated_later (map plain_file self.old.files.now) (Some label.now)
             (drop number statements))) }
         ensures labels { OnOk result (AreKeptLabels (map plain_file self.old.files.now)
             self.new.labels.items) }
         ensures kept { self.new.refusals ≡ self.old.refusals }
+        ensures shared { self.new.shared ≡ self.old.shared }
+        ensures explanations { self.new.explanations ≡ self.old.explanations }
         ensures profile { self.new.profile ≡ self.old.profile }
         ensures source { self.new.source ≡ self.old.source }
         ensures files { self.new.files ≡ self.old.files }
     {
         self.read_labels()?;
-        push_later(&mut self.text, self.files, &self.labels, number, label)
+        push_later(out, self.files, &self.labels, number, label)
     }
 
-    /// Explains the refusal of the `$p` that the book took last.
+    /// What explains the refusal of the `$p` that the book took last.
+    fn explanation(
+        &mut self,
+        book: &Book<'a>,
+        statement: &Statement<'a>,
+        refusal: &Refusal<'a>,
+    ) -> Result<Vec<u8>, AllocError>
+        requires formed { HasForm (plain_statement statement.now) }
+        requires refused { IsRefusedLast self.old.profile (map plain_file self.old.files.now)
+            book.now.statements (plain_statement statement.now) (plain_refusal refusal.now) }
+        requires labels { AreKeptLabels (map plain_file self.old.files.now)
+            self.old.labels.items }
+        ensures explained { IfOk result (λ text. IsExplanation self.old.profile self.old.source
+            (map plain_file self.old.files.now) (plain_refusal refusal.now) text.items) }
+        ensures labels { OnOk result (AreKeptLabels (map plain_file self.old.files.now)
+            self.new.labels.items) }
+        ensures kept { self.new.refusals ≡ self.old.refusals }
+        ensures shared { self.new.shared ≡ self.old.shared }
+        ensures explanations { self.new.explanations ≡ self.old.explanations }
+        ensures profile { self.new.profile ≡ self.old.profile }
+        ensures source { self.new.source ≡ self.old.source }
+        ensures files { self.new.files ≡ self.old.files }
+    {
+        let mut text = Vec::new(self.alloc);
+        let manner = Manner {
+            profile: self.profile,
+            source: self.source,
+        };
+        let unknown = push_explanation(
+            &mut text, self.alloc, manner, self.files, book, statement, refusal,
+        )?;
+        match unknown {
+            Some(label) => {
+                self.tell_later(&mut text, label, refusal.statement)?;
+                Ok(text)
+            }
+            None => Ok(text),
+        }
+    }
+
+    /// Explains the refusal of the `$p` that the book took last, unless enough are.
     fn explain(
         &mut self,
         book: &Book<'a>,
@@ -409,32 +488,26 @@ impl<'a> Reasons<'a> {
             book.now.statements (plain_statement statement.now) (plain_refusal refusal.now) }
         requires labels { AreKeptLabels (map plain_file self.old.files.now)
             self.old.labels.items }
-        ensures explained { OnOk result ((text : List ℕ)
-            × IsExplanation self.old.profile self.old.source
-            (map plain_file self.old.files.now) (plain_refusal refusal.now) text
-            × (self.new.text.items ≡ self.old.text.items ++ text)) }
+        ensures explains { OnOk result
+            (Explains self.old (plain_refusal refusal.now) self.new) }
         ensures labels { OnOk result (AreKeptLabels (map plain_file self.old.files.now)
             self.new.labels.items) }
         ensures kept { self.new.refusals ≡ self.old.refusals }
+        ensures shared { self.new.shared ≡ self.old.shared }
         ensures profile { self.new.profile ≡ self.old.profile }
         ensures source { self.new.source ≡ self.old.source }
         ensures files { self.new.files ≡ self.old.files }
     {
-        let manner = Manner {
-            profile: self.profile,
-            source: self.source,
-        };
-        let text = &mut self.text;
-        let unknown = push_explanation(
-            text, self.alloc, manner, self.files, book, statement, refusal,
-        )?;
-        match unknown {
-            Some(label) => self.tell_later(label, refusal.statement),
-            None => Ok(()),
+        if self.refusals.len() >= MOST_EXPLAINED {
+            return Ok(());
         }
+        let text = self.explanation(book, statement, refusal)?;
+        self.explanations.push(text)?;
+        Ok(())
     }
 
-    /// Keeps the refusal of the `$p` that the book took last, and explains it unless enough are.
+    /// Keeps the refusal of the `$p` that the book took last, with what it shares with the others,
+    /// and explains it unless enough are.
     fn note(
         &mut self,
         book: &Book<'a>,
@@ -448,55 +521,58 @@ impl<'a> Reasons<'a> {
             self.old.labels.items }
         ensures { OnOk result (Notes self.old refusal.entry self.new) }
     {
-        if self.refusals.len() >= MOST_EXPLAINED {
-            return self.keep(refusal);
-        }
         self.explain(book, statement, &refusal)?;
+        let id = last_number(book, statement);
+        self.shared.note(book, id, statement)?;
         self.keep(refusal)
     }
 
-    /// Tells how many faults of proofs aren't explained.
-    fn tell_more(&mut self) -> Result<(), AllocError>
-        ensures text { OnOk result (self.new.text.items ≡ self.old.text.items
-            ++ more_text self.old.profile (length self.old.refusals.items - most_explained)) }
-        ensures kept { self.new.refusals ≡ self.old.refusals }
-        ensures profile { self.new.profile ≡ self.old.profile }
-        ensures source { self.new.source ≡ self.old.source }
-        ensures files { self.new.files ≡ self.old.files }
+    /// Tells the faults of proofs: what they share, the first of them explained, and how many more
+    /// there are.
+    fn proofs_told(&self) -> Result<Vec<u8>, AllocError>
+        requires { CanBeRead (map plain_file self.now.files.now) }
+        ensures { IfOk result (λ text. (listed : List PlainRefusal)
+            → map plain_refusal self.now.refusals.items ≡ listed
+            → AreNoted (map plain_file self.now.files.now) listed self.now.shared
+            → AreExplained self.now.profile self.now.source (map plain_file self.now.files.now) listed
+            (texts_in self.now.explanations.items)
+            → TellsProofs self.now.profile self.now.source (map plain_file self.now.files.now) listed
+            text.items) }
     {
-        let more = self.refusals.len().saturating_sub(MOST_EXPLAINED);
-        push_more(&mut self.text, self.profile, more)
+        let mut text = shared_line(
+            self.alloc,
+            self.seed,
+            self.files,
+            &self.shared,
+            &self.refusals,
+        )?;
+        let most = most_explained(&text);
+        let told = most.min(self.explanations.len());
+        push_explanations(&mut text, &self.explanations[..told])?;
+        let more = self.refusals.len().saturating_sub(most);
+        push_more(&mut text, self.profile, more)?;
+        Ok(text)
     }
 
-    /// Explains the fault that ended the run before the others, and keeps it.
-    fn tell_last(&mut self, seed: Seed, last: Refusal<'a>) -> Result<(), AllocError>
-        requires { EndsRun (map plain_file self.old.files.now) (plain_refusal last) }
-        ensures explained { OnOk result ((text : List ℕ)
-            × IsLastExplanation self.old.source (map plain_file self.old.files.now)
-            (plain_refusal last.entry) text
-            × (self.new.text.items ≡ text ++ self.old.text.items)) }
+    /// Explains the fault that ended the run and keeps it, and tells those of proofs.
+    fn told_with_last(&mut self, last: Refusal<'a>) -> Result<Vec<u8>, AllocError>
+        requires readable { CanBeRead (map plain_file self.old.files.now) }
+        requires ends { EndsRun (map plain_file self.old.files.now) (plain_refusal last) }
+        ensures told { IfOk result (λ text. (listed : List PlainRefusal)
+            → map plain_refusal self.old.refusals.items ≡ listed
+            → AreNoted (map plain_file self.old.files.now) listed self.old.shared
+            → AreExplained self.old.profile self.old.source (map plain_file self.old.files.now) listed
+            (texts_in self.old.explanations.items)
+            → TellsLast self.old.profile self.old.source (map plain_file self.old.files.now) listed
+            (plain_refusal last.entry) text.items) }
         ensures kept { OnOk result (self.new.refusals.items
             ≡ self.old.refusals.items ++ last.entry ∷ []) }
     {
-        let mut text = Vec::new(self.alloc);
-        push_last(&mut text, self.alloc, seed, self.files, &last, self.source)?;
-        text.extend_from_slice(&self.text)?;
-        self.text = text;
-        self.keep(last)
-    }
-
-    /// Counts all faults, of which there is one: the whole text, and the status of the first.
-    fn finish(self) -> Result<(Vec<u8>, Status), AllocError>
-        requires { 0 < length self.refusals.items }
-        ensures text { IfOk result (λ told. told.0.items ≡ self.entry.text.items
-            ++ count_text (length self.entry.refusals.items)) }
-        ensures status { IfOk result (λ told. (first : Refusal) (others : List Refusal)
-            → self.entry.refusals.items ≡ first ∷ others
-            → number_of told.1 ≡ refusal_status first.rule) }
-    {
-        let mut text = self.text;
-        push_count(&mut text, self.refusals.len())?;
-        Ok((text, first_status(&self.refusals)))
+        let mut text = last_explanation(self.alloc, self.seed, self.files, &last, self.source)?;
+        let proofs = self.proofs_told()?;
+        text.extend_from_slice(&proofs)?;
+        self.keep(last)?;
+        Ok(text)
     }
 }
 
@@ -520,6 +596,20 @@ impl<'a> Visitor<'a> for Reasons<'a> {
     }
 }
 
+/// Counts all faults behind what is told of them, of which there is one: the whole text, and the
+/// status of the first.
+fn finish(text: Vec<u8>, refusals: &[Refusal]) -> Result<(Vec<u8>, Status), AllocError>
+    requires { 0 < length refusals.now }
+    ensures text { IfOk result (λ told. told.0.items
+        ≡ text.items ++ count_text (length refusals.now)) }
+    ensures status { IfOk result (λ told. (first : Refusal) (others : List Refusal)
+        → refusals.now ≡ first ∷ others → number_of told.1 ≡ refusal_status first.rule) }
+{
+    let mut text = text;
+    push_count(&mut text, refusals.len())?;
+    Ok((text, first_status(refusals)))
+}
+
 /// Checks in a profile the database that the files hold, as `all_faults` does, and tells all faults
 /// in one run, each with what explains it, and where it is asked for with its line of the file.
 ///
@@ -527,6 +617,7 @@ impl<'a> Visitor<'a> for Reasons<'a> {
 ///
 /// `Load` where the files can't be taken as a whole, else `Refused` with what tells all faults;
 /// `Memory` where a growth was refused, and nothing is said of the files then.
+#[tactic(auto, using(crate::proofs::Explanations::nothing_noted))]
 pub fn explained<'a>(
     alloc: Global,
     seed: Seed,
@@ -545,7 +636,8 @@ pub fn explained<'a>(
         source,
         files,
         refusals: Vec::new(alloc),
-        text: Vec::new(alloc),
+        shared: Shared::new(alloc, seed),
+        explanations: Vec::new(alloc),
         labels: Vec::new(alloc),
     };
     match judge_files(alloc, seed, profile, files, &mut reasons) {
@@ -554,14 +646,13 @@ pub fn explained<'a>(
                 return Ok(conclude(profile, files, progress));
             }
             drop(progress);
-            reasons.tell_more()?;
-            let (text, status) = reasons.finish()?;
+            let told = reasons.proofs_told()?;
+            let (text, status) = finish(told, &reasons.refusals)?;
             Err(Unaccepted::Refused { text, status })
         }
         Err(CheckFault::Refused(last)) => {
-            reasons.tell_more()?;
-            reasons.tell_last(seed, last)?;
-            let (text, status) = reasons.finish()?;
+            let told = reasons.told_with_last(last)?;
+            let (text, status) = finish(told, &reasons.refusals)?;
             Err(Unaccepted::Refused { text, status })
         }
         Err(CheckFault::Load(rule)) => Err(Unaccepted::Load(rule)),

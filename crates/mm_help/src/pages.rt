@@ -69,7 +69,8 @@ const WHY: &str = "Usage: mm why [--strict] [--source] FILES..
 Checks a database as `mm faults` does, and explains the faults that it lists:
 where each stands, the rule and its meaning, and the facts that show it, as what
 a step's hypotheses ask and what its entries give. A fault that ended the run is
-explained first. Of faults of proofs the first ten are explained.
+explained first. Of faults of proofs the first ten are explained, or three
+behind a line that says what all share: a hypothesis, or a label that they name.
 
 Options:
   --strict   as for check: `mm help check`

@@ -151,6 +151,8 @@ Replies of why, on standard output:
       A fault that faults tells: first the one that ended the run, if one did, and then the others
       in their order. Its facts follow, in lines that begin with spaces. At most ten faults of
       proofs are explained; the last line counts all. The status is that of faults.
+  all N faulty proofs have the hypothesis LABEL, or: name LABEL
+      What they share, before the first of them, of which three are explained then.
   Where nothing is at fault: the reply of check, with its status.
 
 Replies of axioms, on standard output:

@@ -301,6 +301,11 @@ fn explained_faults_in_order(rt: HostRuntime) -> Result<(), Fail> {
 }
 
 #[test]
+fn explained_faults_of_a_group(rt: HostRuntime) -> Result<(), Fail> {
+    compare_commands(&rt, rt.alloc(), &why::GROUPS)
+}
+
+#[test]
 fn explained_faults_with_unused_labels(rt: HostRuntime) -> Result<(), Fail> {
     compare_commands(&rt, rt.alloc(), &why::UNUSED)
 }

@@ -70,10 +70,10 @@ f.mm:3:13: P2: no earlier statement has the label, in the proof of q
                 b"f.mm",
                 &[
                     Text(b"$c a $.\n"),
-                    Text(b"p01 $p a $= nope $.\np02 $p a $= nope $.\np03 $p a $= nope $.\n"),
-                    Text(b"p04 $p a $= nope $.\np05 $p a $= nope $.\np06 $p a $= nope $.\n"),
-                    Text(b"p07 $p a $= nope $.\np08 $p a $= nope $.\np09 $p a $= nope $.\n"),
-                    Text(b"p10 $p a $= nope $.\np11 $p a $= nope $.\np12 $p a $= nope $.\n"),
+                    Text(b"p01 $p a $= b $.\np02 $p a $= c $.\np03 $p a $= d $.\n"),
+                    Text(b"p04 $p a $= e $.\np05 $p a $= f $.\np06 $p a $= g $.\n"),
+                    Text(b"p07 $p a $= h $.\np08 $p a $= i $.\np09 $p a $= j $.\n"),
+                    Text(b"p10 $p a $= k $.\np11 $p a $= l $.\np12 $p a $= m $.\n"),
                     Text(b"  $c a $.\n"),
                 ],
             )],
@@ -81,25 +81,25 @@ f.mm:3:13: P2: no earlier statement has the label, in the proof of q
   token: a
   declared: f.mm:1:4
 f.mm:2:13: P2: no earlier statement has the label, in the proof of p01
-  token: nope
+  token: b
 f.mm:3:13: P2: no earlier statement has the label, in the proof of p02
-  token: nope
+  token: c
 f.mm:4:13: P2: no earlier statement has the label, in the proof of p03
-  token: nope
+  token: d
 f.mm:5:13: P2: no earlier statement has the label, in the proof of p04
-  token: nope
+  token: e
 f.mm:6:13: P2: no earlier statement has the label, in the proof of p05
-  token: nope
+  token: f
 f.mm:7:13: P2: no earlier statement has the label, in the proof of p06
-  token: nope
+  token: g
 f.mm:8:13: P2: no earlier statement has the label, in the proof of p07
-  token: nope
+  token: h
 f.mm:9:13: P2: no earlier statement has the label, in the proof of p08
-  token: nope
+  token: i
 f.mm:10:13: P2: no earlier statement has the label, in the proof of p09
-  token: nope
+  token: j
 f.mm:11:13: P2: no earlier statement has the label, in the proof of p10
-  token: nope
+  token: k
 and 2 more, which mm faults lists
 13 faults
 ",
@@ -291,6 +291,7 @@ in the proof of p8, at step 2
                     Text(b"p3 $p a a $= ( one A $.\np4 $p a a $= one fy e $.\n"),
                     Text(b"p5 $p a a $= ( one fy ) A $.\np6 $p a a $= ( one ) Aa\n  aB $.\n"),
                     Text(b"p7 $p a a $= ( one ) AU\n  U ZA $.\np8 $p a a $= ( one ) AZB UV $.\n"),
+                    Text(b"s $p a $= one one one one one one one one ? $.\n"),
                 ],
             )],
             reply: b"f.mm:3:18: P2: no earlier statement has the label, in the proof of p1
@@ -369,6 +370,7 @@ f.mm:8:20: P15: the list or a Z isn't as the strict profile demands, in the proo
                     Text(b"p5 $p a x b $= ( two ) AB\n  Z Z $.\n"),
                     Text(b"p6 $p a x b b $= ( two ) ABZBC\n Z $.\n"),
                     Text(b"p7 $p a x b $= ( two ) Z AB $.\np8 $p a x b $= ( two ) ABZ $.\n"),
+                    Text(b"s $p a x b $= fx two fx two fx two fx two fx two ? $.\n"),
                 ],
             )],
             reply: b"\
@@ -461,32 +463,32 @@ pub(crate) const ORDERED: [(Command<'static>, Case); 3] = [
                 b"f.mm",
                 &[
                     Text(b"$c a $.\n"),
-                    Text(b"p01 $p a $= nope $.\np02 $p a $= nope $.\np03 $p a $= nope $.\n"),
-                    Text(b"p04 $p a $= nope $.\np05 $p a $= nope $.\np06 $p a $= nope $.\n"),
-                    Text(b"p07 $p a $= nope $.\np08 $p a $= nope $.\np09 $p a $= nope $.\n"),
-                    Text(b"p10 $p a $= nope $.\np11 $p a $= nope $.\n"),
+                    Text(b"p01 $p a $= b $.\np02 $p a $= c $.\np03 $p a $= d $.\n"),
+                    Text(b"p04 $p a $= e $.\np05 $p a $= f $.\np06 $p a $= g $.\n"),
+                    Text(b"p07 $p a $= h $.\np08 $p a $= i $.\np09 $p a $= j $.\n"),
+                    Text(b"p10 $p a $= k $.\np11 $p a $= l $.\n"),
                 ],
             )],
             reply: b"f.mm:2:13: P2: no earlier statement has the label, in the proof of p01
-  token: nope
+  token: b
 f.mm:3:13: P2: no earlier statement has the label, in the proof of p02
-  token: nope
+  token: c
 f.mm:4:13: P2: no earlier statement has the label, in the proof of p03
-  token: nope
+  token: d
 f.mm:5:13: P2: no earlier statement has the label, in the proof of p04
-  token: nope
+  token: e
 f.mm:6:13: P2: no earlier statement has the label, in the proof of p05
-  token: nope
+  token: f
 f.mm:7:13: P2: no earlier statement has the label, in the proof of p06
-  token: nope
+  token: g
 f.mm:8:13: P2: no earlier statement has the label, in the proof of p07
-  token: nope
+  token: h
 f.mm:9:13: P2: no earlier statement has the label, in the proof of p08
-  token: nope
+  token: i
 f.mm:10:13: P2: no earlier statement has the label, in the proof of p09
-  token: nope
+  token: j
 f.mm:11:13: P2: no earlier statement has the label, in the proof of p10
-  token: nope
+  token: k
 and 1 more, which mm faults --strict lists
 11 faults
 ",
@@ -571,6 +573,7 @@ pub(crate) const UNUSED: [(Command<'static>, Case); 1] = [(
                 Text(b"p3 $p b $= ( one two ) ZA? $.\np4 $p b $= ( one two ) AV $.\n"),
                 Text(b"p5 $p b $= one $.\n${ h $e a $.\n  p6 $p b $= ( one h two ) A $.\n"),
                 Text(b"  p7 $p b $= ( one two ) B $. $}\np8 $p b $= ( one ) A $.\n"),
+                Text(b"s $p a $= one one one one one one one one ? $.\n"),
             ],
         )],
         reply: b"f.mm:3:26: P14: the proof proves something else than is stated, in the proof of p1, at step 2
@@ -624,3 +627,189 @@ f.mm:12:22: P14: the proof proves something else than is stated, in the proof of
         status: 1,
     },
 )];
+
+/// What three or more faulty proofs share.
+pub(crate) const GROUPS: [(Command<'static>, Case); 5] = [
+    (
+        Whole {
+            profile: Strict,
+            question: WholeQuestion::Why { source: false },
+        },
+        Case {
+            name: "four that have a hypothesis",
+            files: &[(
+                b"f.mm",
+                &[
+                    Text(b"$c a b $.\nbx $a b $.\n${ h $e b $. g $e b $.\n"),
+                    Text(b"p $p b $= bx $.\n${ e $e b $.\nq $p a $= bx $.\n$}\n"),
+                    Text(b"r $p a $= bx $.\ns $p a $= bx $.\nt $p a $= bx $.\n"),
+                    Text(b"$c b $.\n"),
+                ],
+            )],
+            reply: b"f.mm:11:1: M1: a $c stands in a block
+  token: $c
+f.mm:3:1: the block is opened here, and not closed
+all 4 faulty proofs have the hypothesis g
+f.mm:6:14: P14: the proof proves something else than is stated, in the proof of q, at step 2
+  it states
+    a
+  but step 1, bx at 6:11, gives
+    b
+  they differ at symbol 1: b where a is asked
+  the theorem's hypotheses
+    f.mm:3:4 h
+    f.mm:3:14 g
+    f.mm:5:4 e
+f.mm:8:14: P14: the proof proves something else than is stated, in the proof of r, at step 2
+  it states
+    a
+  but step 1, bx at 8:11, gives
+    b
+  they differ at symbol 1: b where a is asked
+  the theorem's hypotheses
+    f.mm:3:4 h
+    f.mm:3:14 g
+f.mm:9:14: P14: the proof proves something else than is stated, in the proof of s, at step 2
+  it states
+    a
+  but step 1, bx at 9:11, gives
+    b
+  they differ at symbol 1: b where a is asked
+  the theorem's hypotheses
+    f.mm:3:4 h
+    f.mm:3:14 g
+and 1 more, which mm faults --strict lists
+5 faults
+",
+            status: 1,
+        },
+    ),
+    (
+        Whole {
+            profile: Lenient,
+            question: WholeQuestion::Why { source: false },
+        },
+        Case {
+            name: "a theorem that states something else, and two of its users",
+            files: &[(
+                b"f.mm",
+                &[
+                    Text(b"$c a b $.\nax $a a $.\nth $p b $= ax $.\n"),
+                    Text(b"p $p a $= ( th ) A $.\nq $p a $= th $.\nr $p b $= th $.\n"),
+                ],
+            )],
+            reply: b"all 3 faulty proofs name th or prove it
+f.mm:3:15: P14: the proof proves something else than is stated, in the proof of th, at step 2
+  it states
+    b
+  but step 1, ax at 3:12, gives
+    a
+  they differ at symbol 1: a where b is asked
+f.mm:4:20: P14: the proof proves something else than is stated, in the proof of p, at step 2
+  it states
+    a
+  but step 1, th at 4:18, gives
+    b
+  they differ at symbol 1: b where a is asked
+f.mm:5:14: P14: the proof proves something else than is stated, in the proof of q, at step 2
+  it states
+    a
+  but step 1, th at 5:11, gives
+    b
+  they differ at symbol 1: b where a is asked
+3 faults
+",
+            status: 1,
+        },
+    ),
+    (
+        Whole {
+            profile: Lenient,
+            question: WholeQuestion::Why { source: false },
+        },
+        Case {
+            name: "three that name a label of no statement",
+            files: &[(
+                b"f.mm",
+                &[
+                    Text(b"$c a $.\np $p a $= nope $.\n"),
+                    Text(b"q $p a $= ( nope ) A $.\nr $p a $= nope ? $.\n"),
+                ],
+            )],
+            reply: b"all 3 faulty proofs name nope
+f.mm:2:11: P2: no earlier statement has the label, in the proof of p
+  token: nope
+f.mm:3:13: P2: no earlier statement has the label, in the proof of q
+  token: nope
+f.mm:4:11: P2: no earlier statement has the label, in the proof of r
+  token: nope
+3 faults
+",
+            status: 1,
+        },
+    ),
+    (
+        Whole {
+            profile: Lenient,
+            question: WholeQuestion::Why { source: false },
+        },
+        Case {
+            name: "three that name what as many others name",
+            files: &[(
+                b"f.mm",
+                &[
+                    Text(b"$c a b $.\nax $a a $.\n"),
+                    Text(b"p $p b $= ax $.\nq $p b $= ax $.\nr $p b $= ax $.\n"),
+                    Text(b"s $p a $= ax $.\nt $p a $= ax $.\nu $p a $= ax $.\n"),
+                ],
+            )],
+            reply: b"f.mm:3:14: P14: the proof proves something else than is stated, in the proof of p, at step 2
+  it states
+    b
+  but step 1, ax at 3:11, gives
+    a
+  they differ at symbol 1: a where b is asked
+f.mm:4:14: P14: the proof proves something else than is stated, in the proof of q, at step 2
+  it states
+    b
+  but step 1, ax at 4:11, gives
+    a
+  they differ at symbol 1: a where b is asked
+f.mm:5:14: P14: the proof proves something else than is stated, in the proof of r, at step 2
+  it states
+    b
+  but step 1, ax at 5:11, gives
+    a
+  they differ at symbol 1: a where b is asked
+3 faults
+",
+            status: 1,
+        },
+    ),
+    (
+        Whole {
+            profile: Lenient,
+            question: WholeQuestion::Why { source: false },
+        },
+        Case {
+            name: "three of which one names two labels the other way round, the first as rare",
+            files: &[(
+                b"f.mm",
+                &[
+                    Text(b"$c a $.\np10 $p a $= m n $.\n"),
+                    Text(b"p11 $p a $= n m $.\np12 $p a $= n m $.\n"),
+                ],
+            )],
+            reply: b"all 3 faulty proofs name m
+f.mm:2:13: P2: no earlier statement has the label, in the proof of p10
+  token: m
+f.mm:3:13: P2: no earlier statement has the label, in the proof of p11
+  token: n
+f.mm:4:13: P2: no earlier statement has the label, in the proof of p12
+  token: n
+3 faults
+",
+            status: 1,
+        },
+    ),
+];

@@ -11,6 +11,7 @@ mod mm_verdict;
 mod mm_render;
 mod mm_near;
 mod mm_facts;
+mod mm_groups;
 mod mm_explain;
 mod mm_mend;
 mod mm_axioms;

@@ -1,8 +1,9 @@
 -- What the code knows of the faults that it has explained. This file mirrors the code, and is cited
 -- by private contracts alone.
 use Rattle.std.specs.Prelude.{◌≡◌, ℕ, ◌<◌, ◌≤◌, List, [], ◌∷◌, ◌++◌, map, take, length}
+use Rattle.std.specs.Global.{Vec}
 use Rattle.std.specs.Prelude.{Bool, true, Option, option_map, ◌⊎◌}
-use Rattle.std.specs.List.{flat_map, AllZip, AllByRecursion}
+use Rattle.std.specs.List.{AllZip, AllByRecursion}
 use Rattle.mm_base.specs.declared.token.Token.{Token}
 use Rattle.mm_base.specs.Token.{PlainToken, plain_token}
 use Rattle.mm_base.specs.Statement.{PlainStatement}
@@ -22,7 +23,10 @@ use Rattle.mm_verdict.specs.Reply.{refusal_status}
 use Rattle.mm_rules.specs.Status.{number_of}
 use Rattle.mm_facts.specs.Explained.{details_text}
 use Rattle.mm_explain.specs.Later.{stated_later}
-use Rattle.mm_explain.specs.Why.{IsExplanation, TellsFaults, most_explained}
+use Rattle.mm_explain.specs.Why.{IsExplanation, IsLastExplanation, TellsFaults, TellsProofs}
+use Rattle.mm_groups.specs.Shared.{AreLabelsAt, Labels}
+use Rattle.mm_groups.specs.Mirror.Kept.{HasShared}
+use Rattle.mm_groups.specs.declared.shared.Shared.{Shared}
 use Rattle.mm_verdict.specs.Why.{is_of_proofs}
 
 -- The statement was told last, and this is its refusal for the fault of its proof.
@@ -58,37 +62,68 @@ abbrev pub AreKeptLabels : List PlainFile → List (Option Token) → Type 0
 AreKeptLabels files labels =
     (labels ≡ []) ⊎ AreLabelsIn files (map (option_map plain_token) labels)
 
--- The text is the explanations of the first of these refusals, all of which are of proofs.
-pub record AreExplained (profile : Profile) (source : Bool) (files : List PlainFile)
-    (refusals : List PlainRefusal) (text : List ℕ) : Type 0 where
-  pub proofs : AllByRecursion (λ r. is_of_proofs r.rule ≡ true) refusals
-  pub explanations : List (List ℕ)
-  pub each : AllZip (IsExplanation profile source files) (take most_explained refusals) explanations
-  pub said : text ≡ flat_map (λ t. t) explanations
+-- how many explanations are kept: only in the end is it known what all refusals share
+abbrev pub most_kept : ℕ
+most_kept = 10
 
--- the refusals listed are those kept, and they are explained
+-- These are the explanations of the first of these refusals, all of which are of proofs.
+pub record AreExplained (profile : Profile) (source : Bool) (files : List PlainFile)
+    (refusals : List PlainRefusal) (explanations : List (List ℕ)) : Type 0 where
+  pub proofs : AllByRecursion (λ r. is_of_proofs r.rule ≡ true) refusals
+  pub each : AllZip (IsExplanation profile source files) (take most_kept refusals) explanations
+
+-- what their proofs share is kept
+pub record AreNoted (files : List PlainFile) (refusals : List PlainRefusal)
+    (shared : Shared) : Type 0 where
+  pub each : List Labels
+  pub are : AllZip (AreLabelsAt files) refusals each
+  pub has : HasShared each shared
+
+-- the texts
+abbrev pub texts_in : List (Vec ℕ) → List (List ℕ)
+texts_in explanations = map (λ t. t.items) explanations
+
+-- the refusals listed are those kept, what they share is kept, and they are explained
 pub record HasExplained (profile : Profile) (files : List PlainFile) (first now : Reasons)
     (taken : List PlainStatement) (listed : List PlainRefusal) : Type 0 where
+  pub readable : CanBeRead files
   pub same_profile : now.profile ≡ profile
   pub same_source : now.source ≡ first.source
   pub same_files : map plain_file now.files.now ≡ files
   pub kept : map plain_refusal now.refusals.items ≡ listed
-  pub explained : AreExplained profile first.source files listed now.text.items
+  pub noted : AreNoted files listed now.shared
+  pub explained : AreExplained profile first.source files listed (texts_in now.explanations.items)
   pub labels : AreKeptLabels files now.labels.items
 
--- The refusal of a proof is kept with the others, and it is explained unless enough are.
+-- The refusal is explained, with the others, unless enough are.
+pub record Explains (old : Reasons) (refusal : PlainRefusal) (new : Reasons) : Type 0 where
+  pub few : length old.refusals.items < most_kept
+      → (text : List ℕ)
+      × IsExplanation old.profile old.source (map plain_file old.files.now) refusal text
+      × (texts_in new.explanations.items ≡ texts_in old.explanations.items ++ text ∷ [])
+  pub many : most_kept ≤ length old.refusals.items → new.explanations ≡ old.explanations
+
+-- The refusal of a proof is kept with the others, and so is what they share, and it is explained
+-- unless enough are.
 pub record Notes (old : Reasons) (refusal : Refusal) (new : Reasons) : Type 0 where
   pub same_profile : new.profile ≡ old.profile
   pub same_source : new.source ≡ old.source
   pub same_files : new.files ≡ old.files
   pub kept : new.refusals.items ≡ old.refusals.items ++ refusal ∷ []
-  pub few : length old.refusals.items < most_explained
-      → (text : List ℕ)
-      × IsExplanation old.profile old.source (map plain_file old.files.now)
-      (plain_refusal refusal) text
-      × (new.text.items ≡ old.text.items ++ text)
-  pub many : most_explained ≤ length old.refusals.items → new.text ≡ old.text
+  pub noted :
+      (listed : List PlainRefusal) → AreNoted (map plain_file old.files.now) listed old.shared
+      → AreNoted (map plain_file old.files.now) (listed ++ plain_refusal refusal ∷ []) new.shared
+  pub explains : Explains old (plain_refusal refusal) new
   pub labels : AreKeptLabels (map plain_file old.files.now) new.labels.items
+
+-- the last fault is explained, and then those of proofs are told
+pub record TellsLast (profile : Profile) (source : Bool) (files : List PlainFile)
+    (listed : List PlainRefusal) (last : PlainRefusal) (text : List ℕ) : Type 0 where
+  pub explanation : List ℕ
+  pub explains : IsLastExplanation source files last explanation
+  pub proofs : List ℕ
+  pub told : TellsProofs profile source files listed proofs
+  pub said : text ≡ explanation ++ proofs
 
 -- Why the files aren't accepted: they can't be taken; or this tells all faults, with the status of
 -- the first; or memory ran out.

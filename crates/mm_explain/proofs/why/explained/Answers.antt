@@ -17,33 +17,41 @@ conclude-requires c =
     (v.clean (sym v.seen.kept ∙ ap (map plain_refusal)
     (none_there c.judge_files.new.visitor.refusals (sym c.if-is_empty.ensures)))).0
 
+pub proofs_told-requires : goal.proofs_told-requires
+proofs_told-requires c =
+    let v = c.in-Ok.ensures.visited in rw v.seen.same_files v.seen.readable
+
 pub returns-in-Ok-clause-why : goal.returns-in-Ok-clause-why
 returns-in-Ok-clause-why c =
     let v = c.in-Ok.ensures.visited in
     let reasons = c.judge_files.new.visitor in
-    tells_why c.args.profile c.args.source (map plain_file c.args.files.now) v.listed reasons.refusals.items []
-    reasons.text.items c.tell_more.new.self.text.items c.tell_more.new.self.text.items
+    let files : List PlainFile = map plain_file c.args.files.now in
+    let told_text = c.in_ok-told-in-Ok.told.items in
+    let told = rw (v.seen.same_profile, v.seen.same_source, v.seen.same_files)
+    at (c.in_ok-told-in-Ok.ensures v.listed v.seen.kept
+    (rw v.seen.same_files v.seen.noted)
+    (rw (v.seen.same_profile, v.seen.same_source, v.seen.same_files) v.seen.explained)) in
+    tells_why c.args.profile c.args.source files v.listed reasons.refusals.items []
+    told_text told_text
     c.in_ok-text-in-Ok.text.items (number_of c.in_ok-text-in-Ok.status)
-    (rw (append-nil v.listed) v.faults) v.seen.kept v.seen.explained tt
-    (rw v.seen.same_profile at c.in_ok-tell_more-in-Ok.ensures.text) [] tt refl
-    c.tell_more.new.self.refusals.items
-    (ap (λ r. r.items) c.in_ok-tell_more-in-Ok.ensures.kept ∙ sym (append-nil _))
-    (rw c.in_ok-tell_more-in-Ok.ensures.kept
-    (some_there reasons.refusals (sym c.if-is_empty.ensures)))
+    (rw (append-nil v.listed) v.faults) v.seen.kept v.seen.explained.proofs told tt [] tt refl
+    c.deref.result.now (c.deref.ensures.value ∙ sym (append-nil _))
+    (rw c.deref.ensures.value (some_there reasons.refusals (sym c.if-is_empty.ensures)))
     c.in_ok-text-in-Ok.ensures.text c.in_ok-text-in-Ok.ensures.status
 
-pub tell_last-requires : goal.tell_last-requires
-tell_last-requires c =
+pub told_with_last-requires-clause-readable : goal.told_with_last-requires-clause-readable
+told_with_last-requires-clause-readable c =
+    let m = rw c.in-Err-Refused.field-0-is at c.in-Err-Refused.ensures.stopped in
+    rw m.seen.same_files m.seen.readable
+
+pub told_with_last-requires-clause-ends : goal.told_with_last-requires-clause-ends
+told_with_last-requires-clause-ends c =
     let m = rw c.in-Err-Refused.field-0-is at c.in-Err-Refused.ensures.stopped in
     let last = c.in-Err-Refused.last in
     let none : m.others ≡ [] = elim (m.rest) [ inl never ↦ absurd never | inr e ↦ e ] in
     let other : is_of_proofs last.rule ≡ false =
     elim (m.kind) [ inl never ↦ absurd never | inr e ↦ e ] in
-    rw (
-      c.in-Err-Refused.field-0-is,
-      c.in_ok-tell_more-in-Err-Refused.ensures.files,
-      m.seen.same_files,
-    )
+    rw (c.in-Err-Refused.field-0-is, m.seen.same_files)
     (ends_run c.args.profile (map plain_file c.args.files.now) m.listed (plain_refusal last) other
     (rw none at m.faults))
 
@@ -53,27 +61,27 @@ returns-in-Err-Refused-clause-why c =
     let reasons = c.judge_files.new.visitor in
     let files : List PlainFile = map plain_file c.args.files.now in
     let last = c.in-Err-Refused.last in
-    let told = c.in_ok-tell_more-in-Err-Refused.ensures in
     let none : m.others ≡ [] = elim (m.rest) [ inl never ↦ absurd never | inr e ↦ e ] in
     let other : is_of_proofs last.rule ≡ false =
     elim (m.kind) [ inl never ↦ absurd never | inr e ↦ e ] in
-    let all : c.tell_last.new.self.refusals.items ≡ reasons.refusals.items ++ last ∷ [] =
-    (rw c.in-Err-Refused.field-0-is at c.in_ok-tell_last-in-Err-Refused.ensures.kept)
-    ∙ ap (λ r. r.items ++ last ∷ []) told.kept in
-    let (text, explains, put) = rw (
-      told.source,
+    let all : c.deref-in-Err-Refused.result.now ≡ reasons.refusals.items ++ last ∷ [] =
+    c.deref-in-Err-Refused.ensures.value
+    ∙ (rw c.in-Err-Refused.field-0-is at c.in_ok-told-in-Err-Refused.ensures.kept) in
+    let told = rw (
+      m.seen.same_profile,
       m.seen.same_source,
-      told.files,
       m.seen.same_files,
       c.in-Err-Refused.field-0-is,
     )
-    at c.in_ok-tell_last-in-Err-Refused.ensures.explained in
-    tells_why c.args.profile c.args.source files m.listed reasons.refusals.items (last ∷ []) reasons.text.items
-    c.tell_more-in-Err-Refused.new.self.text.items c.tell_last.new.self.text.items
+    at (c.in_ok-told-in-Err-Refused.ensures.told m.listed m.seen.kept
+    (rw m.seen.same_files m.seen.noted)
+    (rw (m.seen.same_profile, m.seen.same_source, m.seen.same_files) m.seen.explained)) in
+    tells_why c.args.profile c.args.source files m.listed reasons.refusals.items (last ∷ [])
+    told.proofs c.in_ok-told-in-Err-Refused.told.items
     c.in_ok-text-in-Err-Refused.text.items (number_of c.in_ok-text-in-Err-Refused.status)
-    (rw none at m.faults) m.seen.kept m.seen.explained (other, tt)
-    (rw m.seen.same_profile at told.text) (text ∷ [])
-    (explains, tt) (rw (append-nil text) put)
-    c.tell_last.new.self.refusals.items all
+    (rw none at m.faults) m.seen.kept m.seen.explained.proofs told.told (other, tt)
+    (told.explanation ∷ []) (told.explains, tt)
+    (told.said ∙ ap (λ t. t ++ told.proofs) (sym (append-nil told.explanation)))
+    c.deref-in-Err-Refused.result.now all
     (rw all (omega (arith, length-append reasons.refusals.items (last ∷ []))))
     c.in_ok-text-in-Err-Refused.ensures.text c.in_ok-text-in-Err-Refused.ensures.status

@@ -1,47 +1,33 @@
--- What is told of a label behind the explanation is what is to be told.
-use Rattle.std.proofs.Common.{◌≡◌, ◌+◌, ◌++◌, ◌∷◌, ℕ, List, Option, Some, map, length, drop, ap, sym}
-use Rattle.std.proofs.Common.{◌∙◌, append-nil}
-use Rattle.std.specs.Prelude.{option_map}
-use Rattle.std.specs.Borrow.{Bor}
-use Rattle.std.proofs.lemmas.Result.{on_ok_weaker}
-use Rattle.mm_base.specs.Statement.{PlainStatement, plain_statement}
-use Rattle.mm_text.specs.Files.{PlainFile, plain_file}
-use Rattle.mm_facts.specs.Explained.{details_text}
-use Rattle.mm_explain.specs.Later.{stated_later}
-use Rattle.mm_rules.specs.Verdict.{PlainRefusal}
-use Rattle.mm_explain.proofs.Explanations.{explained_later}
-use Rattle.mm_explain.proofs.LaterLabels.{labels_behind}
+-- It is explained, unless enough are.
+use Rattle.std.proofs.Common.{◌≡◌, ◌++◌, ◌∷◌, [], Vec, ap, arith, length, map, refl, rules, vec_len}
+use Rattle.std.proofs.Common.{◌∙◌}
+use Rattle.std.proofs.lemmas.List.{map-append}
+use Rattle.mm_explain.specs.Mirror.Reasons.{texts_in}
 use Rattle.mm_explain.proofs.why.Reasons.explain.Goals as goal
 
-pub returns-in-Some-clause-explained : goal.returns-in-Some-clause-explained
-returns-in-Some-clause-explained c =
-    let files : List PlainFile = map plain_file c.args.self.now.files.now in
-    let s : PlainStatement = plain_statement c.args.statement.now in
-    let (text, but, put) = c.in_ok-unknown.ensures in
-    let r = but.0 in
-    let middle : List ℕ = c.push_explanation.new.out.items in
-    let number : c.args.refusal.now.statement ≡ length r.before + 1 =
-    ap (λ (p : PlainRefusal). p.statement) r.refused.refused in
-    let named = ap (option_map (λ (l : Bor (List ℕ)). l.now)) c.in-Some.is in
-    on_ok_weaker c.tell_later.result
-    (λ told. explained_later (option_map (λ (l : Bor (List ℕ)). l.now) c.in_ok-unknown.unknown) text
-    but c.args.self.now.text.items middle c.tell_later.new.self.text.items put
-    (told (r.before ++ s ∷ r.after) r.ending r.reads
-    ∙ ap (λ (after : List PlainStatement). middle
-    ++ details_text (stated_later files (Some c.in-Some.label.now) after))
-    (ap (λ n. drop n (r.before ++ s ∷ r.after)) number ∙ labels_behind r.before r.after s)
-    ∙ ap (λ (o : Option (List ℕ)). middle ++ details_text (stated_later files o r.after))
-    (sym named)))
-    c.tell_later.ensures.told
+pub returns-then-len-ge-MOST_EXPLAINED-clause-explains : goal.returns-then-len-ge-MOST_EXPLAINED-clause-explains
+returns-then-len-ge-MOST_EXPLAINED-clause-explains c =
+    let old = c.args.self.now in
+    let long : vec_len old.refusals ≡ length old.refusals.items = search rules in
+    record {
+      few = λ less.
+          absurd (omega (arith, less, long, c.len.ensures, c.if-len-ge-MOST_EXPLAINED.true));
+      many = λ many. refl;
+    }
 
-pub returns-in-None-clause-explained : goal.returns-in-None-clause-explained
-returns-in-None-clause-explained c =
-    let files : List PlainFile = map plain_file c.args.self.now.files.now in
-    let (text, but, put) = c.in_ok-unknown.ensures in
-    let middle : List ℕ = c.push_explanation.new.out.items in
-    let named = ap (option_map (λ (l : Bor (List ℕ)). l.now)) c.in-None.is in
-    explained_later (option_map (λ (l : Bor (List ℕ)). l.now) c.in_ok-unknown.unknown) text but
-    c.args.self.now.text.items middle middle put
-    (sym (append-nil middle)
-    ∙ ap (λ (o : Option (List ℕ)). middle ++ details_text (stated_later files o but.0.after))
-    (sym named))
+pub returns-clause-explains : goal.returns-clause-explains
+returns-clause-explains c =
+    let old = c.args.self.now in
+    let long : vec_len old.refusals ≡ length old.refusals.items = search rules in
+    let told = c.in_ok-text.ensures in
+    record {
+      few = λ less. (
+        c.in_ok-text.text.items,
+        told.explained,
+        ap texts_in c.in_ok-push.ensures.items
+            ∙ map-append (λ t. t.items) _ (c.in_ok-text.text ∷ [])
+            ∙ ap (λ v. texts_in v.items ++ c.in_ok-text.text.items ∷ []) told.explanations,
+      );
+      many = λ many.
+          absurd (omega (arith, many, long, c.len.ensures, c.if-len-ge-MOST_EXPLAINED.false));
+    }

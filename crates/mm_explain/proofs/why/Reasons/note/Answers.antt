@@ -1,31 +1,44 @@
--- The refusal is explained, and then kept.
-use Rattle.std.proofs.Common.{◌≡◌, ◌++◌, ◌∷◌, [], ap, arith, length, map, rules, subst, sym, vec_len}
-use Rattle.std.proofs.Common.{◌∙◌}
+-- The refusal is explained, what it shares is noted, and then it is kept.
+use Rattle.std.proofs.Common.{◌≡◌, ◌++◌, ◌∷◌, [], List, ap, map, length, subst, sym, ◌∙◌}
 use Rattle.std.proofs.lemmas.Result.{on_ok_weaker}
-use Rattle.mm_text.specs.Files.{plain_file}
-use Rattle.mm_explain.specs.Mirror.Reasons.{AreKeptLabels}
+use Rattle.mm_base.specs.Statement.{PlainStatement, plain_statement}
+use Rattle.mm_text.specs.Files.{PlainFile, plain_file}
+use Rattle.mm_rules.specs.Answer.{plain_refusal}
+use Rattle.mm_rules.specs.Verdict.{PlainRefusal, sentences}
+use Rattle.mm_explain.specs.Mirror.Reasons.{AreKeptLabels, AreNoted}
+use Rattle.mm_explain.proofs.Explanations.{explained_before, noted_more, told_parts}
 use Rattle.mm_explain.proofs.why.Reasons.note.Goals as goal
+
+pub note-requires : goal.note-requires
+note-requires c =
+    let r = c.requires.refused in
+    (sentences r.before, told_parts r, c.last_number-id.ensures (sentences r.before) (told_parts r))
 
 pub returns : goal.returns
 returns c =
     let old = c.args.self.now in
+    let files : List PlainFile = map plain_file old.files.now in
+    let s : PlainStatement = plain_statement c.args.statement.now in
+    let r = c.requires.refused in
     let told = c.in_ok-explain.ensures in
-    let put = c.keep-2.ensures in
-    on_ok_weaker c.keep-2.result
+    let put = c.keep.ensures in
+    let shared = c.in_ok-note.ensures (sentences r.before) (told_parts r)
+    (c.last_number-id.ensures (sentences r.before) (told_parts r)) in
+    let place = ap (λ (p : PlainRefusal). p.statement) r.refused.refused in
+    on_ok_weaker c.keep.result
     (λ kept. record {
       same_profile = put.profile ∙ told.profile;
       same_source = put.source ∙ told.source;
       same_files = put.files ∙ told.files;
-      kept = kept ∙ ap (λ r. r.items ++ c.args.refusal ∷ []) told.kept;
-      few = λ less. (
-        told.explained.0,
-        told.explained.1,
-        ap (λ t. t.items) put.text ∙ told.explained.2,
-      );
-      many = λ many.
-          let long : vec_len old.refusals ≡ length old.refusals.items = search rules in
-          absurd (omega (arith, many, long, c.len.ensures, c.if-len-ge-MOST_EXPLAINED.false));
-      labels = subst (λ ls. AreKeptLabels (map plain_file old.files.now) ls.items)
-          (sym put.labels) told.labels;
+      kept = kept ∙ ap (λ v. v.items ++ c.args.refusal ∷ []) told.kept;
+      noted = subst
+          (λ now. (listed : List PlainRefusal) → AreNoted files listed old.shared
+          → AreNoted files (listed ++ plain_refusal c.args.refusal ∷ []) now)
+          (sym put.shared)
+          (noted_more files (plain_refusal c.args.refusal) r.before s r.after r.ending old.shared
+          c.note.new.self r.reads place (rw told.shared at shared));
+      explains = explained_before old c.explain.new.self c.keep.new.self
+          (plain_refusal c.args.refusal) told.explains put.explanations;
+      labels = subst (λ ls. AreKeptLabels files ls.items) (sym put.labels) told.labels;
     })
     put.kept

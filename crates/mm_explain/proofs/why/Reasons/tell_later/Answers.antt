@@ -14,14 +14,14 @@ use Rattle.mm_explain.proofs.why.Reasons.tell_later.Goals as goal
 pub returns-clause-told : goal.returns-clause-told
 returns-clause-told c =
     let files : List PlainFile = map plain_file c.args.self.now.files.now in
-    let out : List ℕ = c.args.self.now.text.items in
+    let out : List ℕ = c.args.out.now.items in
     let told = λ (first : Option PlainToken). details_text
     (map (λ t. stated_later_at (token_place files t)) (option_to_list first)) in
     on_ok_weaker c.push_later.result
     (λ put statements ending reads.
     let are : AreLabelsIn files (map (option_map plain_token) c.deref.result.now) =
     rw c.deref.ensures.value c.in_ok-read_labels.ensures.labels in
-    (rw (c.in_ok-read_labels.ensures.text, c.in_ok-read_labels.ensures.files) at put)
+    (rw c.in_ok-read_labels.ensures.files at put)
     ∙ ap (λ (o : Option PlainToken). out ++ told o)
     (stated_behind files (map (option_map plain_token) c.deref.result.now) c.args.label.now
     c.args.number statements ending are reads))
