@@ -14,15 +14,18 @@ use Rattle.mm_rules.specs.Conclusion.{labels_in}
 use Rattle.mm_rules.specs.Rests.{AreInOrder, HasTree}
 use Rattle.mm_rules.specs.Verdict.{sentences}
 use Rattle.mm_verdict.proofs.Questions.AskedTheorems.{one_tree}
-use Rattle.mm_axioms.proofs.Resting.RestsOn.{in_order_once}
-use Rattle.mm_diff.specs.Diff.{AreAlike, AreRenamed, AreTold, DependsFurther, DependsLess}
-use Rattle.mm_diff.specs.Diff.{HasPlaces, HaveTurned, IsAlone, IsFurther, IsOne, IsOneTheorem}
-use Rattle.mm_diff.specs.Diff.{IsAssertionNamed, IsChanged, IsMissing, IsMoved}
-use Rattle.mm_diff.specs.Diff.{IsReproved, IsShared}
+use Rattle.mm_rules.proofs.OrderedNumbers.{in_order_once}
+use Rattle.mm_diff.specs.Diff.{AreRenamed, AreTold, DependsFurther, DependsLess}
+use Rattle.mm_alike.specs.Alike.{AreAlike}
+use Rattle.mm_diff.specs.Diff.{HasPlaces, HaveTurned, IsFurther, IsOne, IsOneTheorem}
+use Rattle.mm_alike.specs.Alike.{IsAlone}
+use Rattle.mm_diff.specs.Diff.{IsMissing, IsMoved}
+use Rattle.mm_alike.specs.Alike.{IsAssertionNamed, IsChanged}
+use Rattle.mm_alike.specs.Alike.{IsReproved, IsShared}
 use Rattle.mm_diff.specs.Diff.{PlainChanges, TellsChanges}
 use Rattle.mm_diff.specs.Diff.{changes_text, changes_status, no_changes}
 use Rattle.mm_diff.specs.Laws.{HaveSameTrees, TellsNothing}
-use Rattle.mm_diff.proofs.DifferingNumbers.{one_number}
+use Rattle.mm_alike.proofs.DifferingNumbers.{one_number}
 use Rattle.mm_diff.proofs.FurtherAxioms.{none_so}
 use Rattle.mm_diff.proofs.ToldDependences.{flipped, further_carries, less_carries, never_further}
 use Rattle.mm_diff.proofs.MovedPlaces.{one_index}

@@ -21,11 +21,13 @@ use Rattle.mm_rules.specs.Verdict.{HasVerdict, Load, Refused, sentences}
 use Rattle.mm_verdict.specs.Reply.{Tells, status_of}
 use Rattle.mm_verdict.proofs.Verdicts.AcceptedStatements.{KeptWell, read_statements}
 use Rattle.mm_verdict.proofs.Verdicts.StatementByStatement.{all_meant}
-use Rattle.mm_diff.specs.declared.database.Database.{Database}
-use Rattle.mm_diff.specs.Diff.{AreRenamed, AreTold, IsAssertionNamed, IsChanged, IsMissing, IsMoved}
+use Rattle.mm_alike.specs.declared.database.Database.{Database}
+use Rattle.mm_diff.specs.Diff.{AreRenamed, AreTold, IsMissing, IsMoved}
+use Rattle.mm_alike.specs.Alike.{IsAssertionNamed, IsChanged}
 use Rattle.mm_diff.specs.Diff.{IsRenamed, PlainChanges, changes_status, changes_text}
 use Rattle.mm_diff.specs.Reply.{AreRefused, HaveYes, IsRefusal, IsReplyBeside, IsDiffReply}
-use Rattle.mm_diff.specs.Mirror.Databases.{AreChangesIn, AreReproved, TellsChangesIn}
+use Rattle.mm_alike.specs.Mirror.Databases.{AreReproved}
+use Rattle.mm_diff.specs.Mirror.Outcomes.{AreChangesIn, TellsChangesIn}
 use Rattle.mm_diff.specs.Mirror.Changes.{AreWithin}
 use Rattle.mm_diff.specs.Mirror.Depends.{TellsFurther, TellsLess}
 use Rattle.mm_diff.specs.Mirror.Outcomes.{IsOfFiles}

@@ -15,7 +15,7 @@ use Rattle.mm_step.specs.Plain.{ids_in}
 use Rattle.mm_rules.specs.Conclusion.{Conclusion}
 use Rattle.mm_rules.specs.Rests.{AreInOrder, AreRising}
 use Rattle.mm_rules.proofs.Numbers.{in_order_same}
-use Rattle.mm_axioms.proofs.Resting.RestsOn.{in_order_once}
+use Rattle.mm_rules.proofs.OrderedNumbers.{in_order_once}
 use Rattle.mm_diff.specs.declared.depends.Dependence.{Dependence}
 use Rattle.mm_diff.specs.Diff.{AreTold}
 use Rattle.mm_diff.specs.Mirror.Changes.{plain_dependence}

@@ -1,14 +1,3 @@
-pub mod AlikeLists
-pub mod ComparedNames
-pub mod ComparedPairs
-pub mod ComparedFrames
-pub mod DifferingNumbers
-pub mod WidthsInBoth
-pub mod TreesOfBoth
-pub mod SharedTrees
-pub mod KeptWidths
-pub mod ProofWords
-pub mod CheckedTheorems
 pub mod RenamedLabels
 pub mod MovedPlaces
 pub mod OneAssertions

@@ -17,11 +17,12 @@ use Rattle.mm_frame.proofs.Names.NameNumbers.{get_mapped, get_unmapped}
 use Rattle.mm_step.specs.Plain.{ids_in}
 use Rattle.mm_rules.specs.Rests.{AreInOrder, AreRising}
 use Rattle.mm_rules.proofs.Numbers.{in_order_same}
-use Rattle.mm_axioms.proofs.Resting.RestsOn.{in_order_once, passed, taken}
-use Rattle.mm_diff.specs.Diff.{distance, HasPlaces, HaveTurned, IsAssertionNamed, IsMoved}
-use Rattle.mm_diff.specs.Diff.{IsShared}
+use Rattle.mm_rules.proofs.OrderedNumbers.{in_order_once, passed, taken}
+use Rattle.mm_diff.specs.Diff.{distance, HasPlaces, HaveTurned, IsMoved}
+use Rattle.mm_alike.specs.Alike.{IsAssertionNamed}
+use Rattle.mm_alike.specs.Alike.{IsShared}
 use Rattle.mm_diff.specs.Mirror.Changes.{IsMovedAmong, IsMovedAt, IsPassedBy, StandsAt}
-use Rattle.mm_diff.proofs.DifferingNumbers.{one_name_of, one_number}
+use Rattle.mm_alike.proofs.DifferingNumbers.{one_name_of, one_number}
 
 -- ---- how far it is to what was passed
 

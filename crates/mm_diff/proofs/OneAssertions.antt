@@ -18,10 +18,11 @@ use Rattle.mm_frame.proofs.Names.LabelNumbers.{numbered_get, numbered_some, numb
 use Rattle.mm_frame.proofs.Names.NameNumbers.{get_mapped, get_unmapped}
 use Rattle.mm_rules.proofs.Numbers.{holds_cases}
 use Rattle.mm_diff.specs.declared.renamed.Renaming.{Renaming}
-use Rattle.mm_diff.specs.Diff.{AreRenamed, IsAssertionNamed, IsOne, IsRenamed}
+use Rattle.mm_diff.specs.Diff.{AreRenamed, IsOne, IsRenamed}
+use Rattle.mm_alike.specs.Alike.{IsAssertionNamed}
 use Rattle.mm_diff.specs.Mirror.Changes.{plain_renaming}
 use Rattle.mm_diff.specs.Mirror.Twins.{AreTwins, IsRenamedBy, IsTwinAt, TellRenamed, turned}
-use Rattle.mm_diff.proofs.DifferingNumbers.{no_assertion, not_alone, one_name_of, one_number}
+use Rattle.mm_alike.proofs.DifferingNumbers.{no_assertion, not_alone, one_name_of, one_number}
 use Rattle.mm_diff.proofs.RenamedLabels.{alone_asserts, only_once}
 
 -- ---- one with one alone

@@ -13,12 +13,13 @@ use Rattle.mm_frame.specs.Sentence.{Sentence}
 use Rattle.mm_step.specs.Plain.{ids_in}
 use Rattle.mm_rules.specs.Rests.{AreInOrder, AreRising}
 use Rattle.mm_rules.proofs.Numbers.{holds_cases, holds_last, in_order_same}
-use Rattle.mm_axioms.proofs.Resting.RestsOn.{among_more, before_less, passed, taken}
+use Rattle.mm_rules.proofs.OrderedNumbers.{among_more, before_less, passed, taken}
 use Rattle.std.proofs.lemmas.List.Elements.{Contains-append_left}
 use Rattle.std.proofs.Common.{inl, inr, ◌≤◌, ◌↔◌, Bool, true, false, not, Option, None, IfSome}
 use Rattle.std.proofs.Common.{is_some}
 use Rattle.mm_diff.specs.declared.renamed.Renaming.{Renaming}
-use Rattle.mm_diff.specs.Diff.{AreAlike, AreRenamed, IsAlone, IsOnlyAlike, IsRenamed}
+use Rattle.mm_diff.specs.Diff.{AreRenamed, IsOnlyAlike, IsRenamed}
+use Rattle.mm_alike.specs.Alike.{AreAlike, IsAlone}
 use Rattle.mm_diff.specs.Mirror.Changes.{plain_renaming}
 
 -- ---- the only one that says the same

@@ -23,10 +23,11 @@ use Rattle.mm_verdict.proofs.Questions.AskedTheorems.{axiom_within, map-take, nu
 use Rattle.mm_verdict.proofs.Questions.AskedTheorems.{used_is}
 use Rattle.mm_verdict.proofs.Questions.FewLabels.{some_label}
 use Rattle.mm_diff.specs.Diff.{AreTold, DependsFurther, DependsLess, DependsOn, IsFurther, IsOne}
-use Rattle.mm_diff.specs.Diff.{IsAssertionNamed, IsOneTheorem}
+use Rattle.mm_diff.specs.Diff.{IsOneTheorem}
+use Rattle.mm_alike.specs.Alike.{IsAssertionNamed}
 use Rattle.mm_diff.specs.Laws.{HaveSameTrees}
 use Rattle.mm_diff.specs.Mirror.Changes.{AreNumbersOf}
-use Rattle.mm_diff.specs.Mirror.Databases.{IsTheorem}
+use Rattle.mm_alike.specs.Mirror.Databases.{IsTheorem}
 use Rattle.mm_diff.specs.Mirror.Depends.{DependsOnIn, IsFurtherIn, IsOneTheoremIn, Tells}
 use Rattle.mm_diff.specs.Mirror.Depends.{TellsFurther, TellsLess}
 

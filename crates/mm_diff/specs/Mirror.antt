@@ -1,11 +1,6 @@
 -- Mirrors of the code: what its parts compare and tell, in the words of the code. Private clauses
 -- alone speak of them, and lemmas join them to the definitions, which are the other files of
 -- specs/.
-pub mod Names
-pub mod Differences
-pub mod Homes
-pub mod Steps
-pub mod Databases
 pub mod Outcomes
 pub mod Changes
 pub mod Twins

@@ -6,14 +6,13 @@ ghost use Rattle.mm_rules.specs.Conclusion.{labels_in};
 ghost use Rattle.mm_rules.specs.Rests.{AreInOrder};
 ghost use Rattle.mm_diff.specs.Diff.{AreRenamed, IsMissing};
 ghost use Rattle.mm_diff.specs.Mirror.Changes.{AreWithin, plain_changes, plain_renaming};
-ghost use Rattle.mm_diff.specs.Mirror.Databases.{AreChangesIn, IsComplete};
+ghost use Rattle.mm_alike.specs.Mirror.Databases.{IsComplete};
+ghost use Rattle.mm_diff.specs.Mirror.Outcomes.{AreChangesIn};
 
 use crate::depends::{Dependence, Dependences, dependences_between};
-use crate::differences::{Difference, those_that_differ};
-use crate::homes::Home;
 use crate::moved::those_moved;
 use crate::renamed::{Renaming, those_missing, those_renamed};
-use crate::reproved::those_reproved;
+use mm_alike::{Difference, Home, those_reproved, those_that_differ};
 use mm_frame::{Book, LabelId};
 use mm_verdict::Checked;
 use std::alloc::{AllocError, Global};

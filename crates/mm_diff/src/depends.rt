@@ -13,9 +13,9 @@ ghost use Rattle.mm_diff.specs.Mirror.Depends.{IsUnsettled, told_of};
 ghost use Rattle.mm_diff.specs.Mirror.Twins.{AreTwins, IsTwinAt};
 
 use crate::renamed::Renaming;
-use crate::reproved::is_theorem;
 use crate::stays::those_that_stay;
 use crate::twins::{turned_renamings, twin_at, twins_of};
+use mm_alike::is_theorem;
 use mm_axioms::{Tables, axioms_at, index_of, is_marked, tables};
 use mm_frame::{Book, LabelId};
 use mm_verdict::Checked;

@@ -5,11 +5,12 @@ ghost use Rattle.std.specs.List.{AllZip};
 ghost use Rattle.mm_frame.specs.Numbers.{labelled_sentences};
 ghost use Rattle.mm_frame.specs.Rules.{AllMeant};
 ghost use Rattle.mm_rules.specs.Rests.{AreInOrder, AreRising};
-ghost use Rattle.mm_diff.specs.Diff.{HaveTurned, IsMoved, IsShared};
+ghost use Rattle.mm_diff.specs.Diff.{HaveTurned, IsMoved};
+ghost use Rattle.mm_alike.specs.Alike.{IsShared};
 ghost use Rattle.mm_diff.specs.Diff.{distance as distance_of};
 ghost use Rattle.mm_diff.specs.Mirror.Changes.{IsMovedAmong, IsMovedAt, IsPassedBy, StandsAt};
 
-use crate::differences::{Difference, assertion_named, those_that_differ};
+use mm_alike::{Difference, assertion_named, those_that_differ};
 use mm_axioms::index_of;
 use mm_frame::{Book, LabelId};
 use std::alloc::{AllocError, Global};

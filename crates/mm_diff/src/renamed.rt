@@ -3,11 +3,12 @@
 ghost use Rattle.std.specs.Prelude.{◌≡◌, ◌↔◌, ℕ, map, Contains, None, IfOk, IfSome, IsTrue};
 ghost use Rattle.mm_frame.specs.Numbers.{IsAssertionNumber};
 ghost use Rattle.mm_rules.specs.Rests.{AreInOrder};
-ghost use Rattle.mm_diff.specs.Diff.{AreAlike, AreRenamed, IsAlone, IsMissing, IsOnlyAlike};
+ghost use Rattle.mm_diff.specs.Diff.{AreRenamed, IsMissing, IsOnlyAlike};
+ghost use Rattle.mm_alike.specs.Alike.{AreAlike, IsAlone};
 ghost use Rattle.mm_diff.specs.Diff.{IsRenamed};
 ghost use Rattle.mm_diff.specs.Mirror.Changes.{plain_renaming};
 
-use crate::alike::are_alike;
+use mm_alike::are_alike;
 use mm_frame::{Book, LabelId};
 use std::alloc::{AllocError, Global};
 

@@ -10,13 +10,13 @@ ghost use Rattle.mm_step.specs.declared.profile.Profile.{Profile};
 ghost use Rattle.mm_diff.specs.Diff.{changes_status as changes_status_of, total};
 ghost use Rattle.mm_diff.specs.Reply.{IsDiffReply, IsReplyBeside};
 ghost use Rattle.mm_diff.specs.Mirror.Changes.{plain_changes};
-ghost use Rattle.mm_diff.specs.Mirror.Databases.{IsComplete, TellsChangesIn};
+ghost use Rattle.mm_alike.specs.Mirror.Databases.{IsComplete};
+ghost use Rattle.mm_diff.specs.Mirror.Outcomes.{TellsChangesIn};
 ghost use Rattle.mm_diff.specs.Mirror.Outcomes.{IsOutcome};
 
 use crate::changes::{Changes, changes_between};
-use crate::database::Database;
-use crate::homes::{Home, homes_of};
 use crate::text::changes_text;
+use mm_alike::{Database, Home, homes_of};
 use mm_base::{File, Seed};
 use mm_rules::Status;
 use mm_step::Profile;

@@ -5,9 +5,9 @@ ghost use Rattle.std.specs.List.{AllZip};
 ghost use Rattle.mm_frame.specs.Numbers.{IsLabelNumber};
 ghost use Rattle.mm_diff.specs.Mirror.Twins.{AreTwins, IsTwinAt, IsUsedAlike, StayThose, StaysAs};
 
-use crate::names::is_same_kind;
 use crate::renamed::is_same;
 use crate::twins::twin_at;
+use mm_alike::is_same_kind;
 use mm_axioms::is_marked;
 use mm_frame::LabelId;
 use mm_verdict::Checked;

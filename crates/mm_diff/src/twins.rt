@@ -8,8 +8,8 @@ ghost use Rattle.mm_diff.specs.Mirror.Changes.{plain_renaming};
 ghost use Rattle.mm_diff.specs.Mirror.Twins.{AreTwins, IsRenamedBy, IsTwinAt, TellRenamed};
 ghost use Rattle.mm_diff.specs.Mirror.Twins.{turned};
 
-use crate::differences::assertion_named;
 use crate::renamed::{Renaming, is_same};
+use mm_alike::assertion_named;
 use mm_frame::{Book, LabelId, LabelKind};
 use std::alloc::{AllocError, Global};
 

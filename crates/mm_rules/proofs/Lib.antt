@@ -6,3 +6,4 @@ pub mod KeptNumbers
 pub mod SymbolWords
 pub mod Lines
 pub mod PairsNamed
+pub mod OrderedNumbers

@@ -470,7 +470,8 @@ fn notes_a_file_that_was_not_included(rt: HostRuntime) {
 }
 
 /// The reply to two versions of which the statements say the same.
-const NONE: &[u8] = b"differ 0 gone 0 added 0 changed 0 reproved 0 renamed 0 moved 0 further 0 less\n";
+const NONE: &[u8] =
+    b"differ 0 gone 0 added 0 changed 0 reproved 0 renamed 0 moved 0 further 0 less\n";
 
 // The packed form of a file is a version in which nothing changed. Each version is a database of its
 // own.

@@ -29,6 +29,7 @@ mod mm_step;
 mod mm_proof;
 mod mm_listing;
 mod mm_places;
+mod mm_alike;
 mod mm_diff;
 mod mm_distinct;
 mod mm_forms;

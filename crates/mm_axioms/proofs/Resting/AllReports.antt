@@ -46,19 +46,13 @@ use Rattle.mm_verdict.specs.Reply.{line_with}
 use Rattle.mm_axioms.specs.Reply.{lines_text}
 use Rattle.mm_rules.specs.Verdict.{labels_of}
 use Rattle.mm_axioms.specs.Mirror.Tables.{line_of_report, AreLinesOf, IsToldAt}
-use Rattle.mm_axioms.proofs.Resting.RestsOn.{among_more}
+use Rattle.mm_rules.proofs.OrderedNumbers.{among_more}
 use Rattle.mm_rules.proofs.Numbers.{label_at, count_labelled}
-use Rattle.mm_verdict.proofs.Questions.AskedTheorems.{numbered_as, proof_or_not, report_by}
+use Rattle.mm_verdict.proofs.Questions.AskedTheorems.{kinds_once, numbered_as, proof_or_not}
+use Rattle.mm_verdict.proofs.Questions.AskedTheorems.{report_by}
 use Rattle.mm_verdict.proofs.Questions.FewLabels.{some_label}
 
 -- ==== the numbers of a kind
-
-kinds_once : (j k : LabelKind) → kind_behind j ≡ kind_behind k → j ≡ k
-kinds_once label_kinds.Floating label_kinds.Floating e = refl
-kinds_once label_kinds.Essential label_kinds.Essential e = refl
-kinds_once label_kinds.Axiom label_kinds.Axiom e = refl
-kinds_once label_kinds.Proof label_kinds.Proof e = refl
-kinds_once _ _ e = absurd cc
 
 pub kind_at : (statements : List Sentence) (id : ℕ) (k kind : LabelKind) → IsLabelNumber statements id
     → ((s : Sentence) → slice_get (labelled_sentences statements) id ≡ Some s → s.kind ≡ kind_behind k) → k ≡ kind → IsOfKind statements (kind_behind kind) id

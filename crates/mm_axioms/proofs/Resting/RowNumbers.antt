@@ -21,7 +21,7 @@ use Rattle.mm_axioms.specs.Mirror.Rows.{PlainRows, row_in, ReachedBefore}
 use Rattle.mm_axioms.specs.Mirror.Shortening.{RestsNoFurther}
 use Rattle.mm_axioms.specs.Mirror.Tables.{TellRests}
 use Rattle.mm_axioms.proofs.WordSets.{bit_parts, word_of, number_of, one_word}
-use Rattle.mm_axioms.proofs.Resting.RestsOn.{taken}
+use Rattle.mm_rules.proofs.OrderedNumbers.{taken}
 
 -- ==== the numbers of one word
 

@@ -22,7 +22,7 @@ use Rattle.mm_axioms.specs.Mirror.Rows.{PlainRows, row_in, Reaches, IsRowPut, Ar
 use Rattle.mm_rules.specs.Mirror.Marks.{UsedIn, AreBackward}
 use Rattle.mm_rules.proofs.Numbers.{holds_last, holds_cases}
 use Rattle.mm_axioms.proofs.WordBits.{has_word}
-use Rattle.mm_axioms.proofs.Resting.RestsOn.{among_more}
+use Rattle.mm_rules.proofs.OrderedNumbers.{among_more}
 use Rattle.mm_axioms.proofs.Resting.UsersOf.{rests_by}
 use Rattle.mm_axioms.proofs.Resting.UsersOf.{true_or_not}
 

@@ -27,7 +27,8 @@ use Rattle.mm_axioms.specs.Users.{AreUsers, UsesIt, ReportsTellUsers}
 use Rattle.mm_rules.specs.Verdict.{sentences}
 use Rattle.mm_rules.specs.Mirror.Marks.{IsMarked, UsedIn, AreBackward}
 use Rattle.mm_rules.proofs.Numbers.{holds_last, holds_cases, in_order_same, count_labelled}
-use Rattle.mm_axioms.proofs.Resting.RestsOn.{taken, marked_set, marked_within, among_more}
+use Rattle.mm_axioms.proofs.Resting.RestsOn.{marked_set, marked_within}
+use Rattle.mm_rules.proofs.OrderedNumbers.{taken, among_more}
 use Rattle.mm_verdict.proofs.Questions.AskedTheorems.{used_is, rests_as}
 use Rattle.mm_frame.specs.Sentence.{Sentence}
 

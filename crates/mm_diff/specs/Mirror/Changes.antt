@@ -7,7 +7,8 @@ use Rattle.mm_frame.specs.Sentence.{Sentence}
 use Rattle.mm_diff.specs.declared.renamed.Renaming.{Renaming}
 use Rattle.mm_diff.specs.declared.changes.Changes.{Changes}
 use Rattle.mm_diff.specs.declared.depends.Dependence.{Dependence}
-use Rattle.mm_diff.specs.Diff.{HaveTurned, IsAssertionNamed, PlainChanges, distance}
+use Rattle.mm_diff.specs.Diff.{HaveTurned, PlainChanges, distance}
+use Rattle.mm_alike.specs.Alike.{IsAssertionNamed}
 
 -- the numbers of one that is renamed, in the other database and in its own
 abbrev pub plain_renaming : Renaming → ℕ × ℕ

@@ -11,7 +11,7 @@ use Rattle.mm_diff.specs.declared.depends.Dependences.{Dependences}
 use Rattle.mm_diff.specs.declared.depends.Side.{Side}
 use Rattle.mm_diff.specs.Diff.{AreTold, IsOne}
 use Rattle.mm_diff.specs.Mirror.Changes.{plain_dependence}
-use Rattle.mm_diff.specs.Mirror.Databases.{IsTheorem}
+use Rattle.mm_alike.specs.Mirror.Databases.{IsTheorem}
 use Rattle.mm_diff.specs.Mirror.Twins.{AreTwins, IsTwinAt}
 
 -- ---- by what is kept of two databases

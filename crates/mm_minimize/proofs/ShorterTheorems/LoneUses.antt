@@ -14,7 +14,7 @@ use Rattle.mm_minimize.specs.AllShorter.{AreOfOneKind, IsByOneAlone, IsUsedOfKin
 use Rattle.mm_rules.specs.Rests.{AreRising}
 use Rattle.mm_minimize.specs.Mirror.Shortening.{HaveOneCode, IsJustOne}
 use Rattle.mm_rules.proofs.Numbers.{holds_cases, holds_last}
-use Rattle.mm_axioms.proofs.Resting.RestsOn.{among_more}
+use Rattle.mm_rules.proofs.OrderedNumbers.{among_more}
 use Rattle.std.proofs.Common.{drop, nat_eq, eq-eqb}
 use Rattle.std.specs.List.{take-map}
 use Rattle.std.specs.Option.{option_eq, option_to_list}

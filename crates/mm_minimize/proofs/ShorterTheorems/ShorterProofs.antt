@@ -41,7 +41,7 @@ use Rattle.mm_rules.proofs.Numbers.{holds_cases, in_order_same}
 use Rattle.mm_verdict.proofs.Questions.AskedTheorems.{used_is, rests_as, map-take}
 use Rattle.mm_render.proofs.ToldProofs.ToldTrees.{tree_told, told_of_tree}
 use Rattle.mm_minimize.proofs.ShorterTheorems.LoneUses.{just_one}
-use Rattle.mm_axioms.proofs.Resting.RestsOn.{among_more}
+use Rattle.mm_rules.proofs.OrderedNumbers.{among_more}
 use Rattle.mm_axioms.proofs.Resting.UsersOf.{rests_by}
 
 -- ---- what a proof may use

@@ -123,6 +123,14 @@ pub hypothesis_other : (kind : Kind) → IsHypothesis kind → kind ≢ Provable
 hypothesis_other kind (inl e) f = cc
 hypothesis_other kind (inr e) f = cc
 
+-- a kind is one
+pub kinds_once : (j k : LabelKind) → kind_behind j ≡ kind_behind k → j ≡ k
+kinds_once label_kinds.Floating label_kinds.Floating e = refl
+kinds_once label_kinds.Essential label_kinds.Essential e = refl
+kinds_once label_kinds.Axiom label_kinds.Axiom e = refl
+kinds_once label_kinds.Proof label_kinds.Proof e = refl
+kinds_once _ _ e = absurd cc
+
 pub other_kind : (k : LabelKind) (kind : Kind) → kind ≡ kind_behind k → ¬ (k ≡ label_kinds.Proof) → kind ≢ Provable
 other_kind label_kinds.Proof kind e other f = other refl
 other_kind _ kind e other f = cc

@@ -4,7 +4,7 @@ use Rattle.std.proofs.Common.{◌∙◌}
 use Rattle.std.proofs.lemmas.List.{take_all}
 use Rattle.std.proofs.lemmas.Option.{slice_get-get_or}
 use Rattle.mm_frame.specs.declared.number.LabelId.{LabelId}
-use Rattle.mm_axioms.proofs.Resting.RestsOn.{among_more}
+use Rattle.mm_rules.proofs.OrderedNumbers.{among_more}
 use Rattle.mm_axioms.proofs.ShortestChains.{IsFirstOfSize, first_starts, first_taken, first_passed}
 use Rattle.mm_axioms.proofs.chains.first_of_size.Goals as goal
 use Rattle.mm_axioms.proofs.chains.first_of_size.Goals.{then-own-size, else-own-size}

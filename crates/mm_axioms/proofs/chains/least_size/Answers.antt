@@ -3,7 +3,7 @@ use Rattle.std.proofs.Common.{◌≤◌, ℕ, List, map, take, length, get_or, s
 use Rattle.std.proofs.lemmas.List.{take_all}
 use Rattle.std.proofs.lemmas.Option.{slice_get-get_or}
 use Rattle.mm_frame.specs.declared.number.LabelId.{LabelId}
-use Rattle.mm_axioms.proofs.Resting.RestsOn.{among_more}
+use Rattle.mm_rules.proofs.OrderedNumbers.{among_more}
 use Rattle.mm_axioms.proofs.ShortestChains.{IsLeastSize, least_starts, least_taken, least_passed}
 use Rattle.mm_axioms.proofs.chains.least_size.Goals as goal
 use Rattle.mm_axioms.proofs.chains.least_size.Goals.{then-is_less, else-is_less}

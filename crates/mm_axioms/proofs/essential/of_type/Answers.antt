@@ -7,7 +7,7 @@ use Rattle.mm_frame.proofs.Names.NameNumbers.{get_mapped}
 use Rattle.mm_base.proofs.Lists.{contains_from_at}
 use Rattle.mm_rules.specs.Rests.{AreInOrder}
 use Rattle.mm_axioms.specs.Essential.{HaveOneType}
-use Rattle.mm_axioms.proofs.Resting.RestsOn.{among_taken, among_passed}
+use Rattle.mm_rules.proofs.OrderedNumbers.{among_taken, among_passed}
 use Rattle.mm_axioms.proofs.essential.of_type.Goals as goal
 use Rattle.mm_axioms.proofs.essential.of_type.Goals.{then-have_one_type+in_ok-push}
 use Rattle.mm_axioms.proofs.essential.of_type.Goals.{else-have_one_type}

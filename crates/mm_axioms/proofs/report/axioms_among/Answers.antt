@@ -1,7 +1,8 @@
 -- One more number, which is taken or passed over.
 use Rattle.std.proofs.Common.{ℕ, ◌<◌, length, refl, arith}
 use Rattle.mm_rules.specs.Mirror.Marks.{IsMarked, IsAxiomNumber}
-use Rattle.mm_axioms.proofs.Resting.RestsOn.{marked_within, up_to_taken, up_to_passed, up_to_ended}
+use Rattle.mm_axioms.proofs.Resting.RestsOn.{marked_within}
+use Rattle.mm_rules.proofs.OrderedNumbers.{up_to_taken, up_to_passed, up_to_ended}
 use Rattle.mm_axioms.proofs.report.axioms_among.Goals as goal
 use Rattle.mm_axioms.proofs.report.axioms_among.Goals.{then-is_marked_axiom+in_ok-push, else-is_marked_axiom}
 

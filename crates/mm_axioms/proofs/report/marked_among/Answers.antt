@@ -5,7 +5,7 @@ use Rattle.std.proofs.lemmas.Option.{slice_get-get_or}
 use Rattle.mm_frame.specs.declared.number.LabelId.{LabelId}
 use Rattle.mm_rules.specs.Rests.{AreInOrder}
 use Rattle.mm_rules.specs.Mirror.Marks.{IsMarked}
-use Rattle.mm_axioms.proofs.Resting.RestsOn.{among_taken, among_passed}
+use Rattle.mm_rules.proofs.OrderedNumbers.{among_taken, among_passed}
 use Rattle.mm_axioms.proofs.report.marked_among.Goals as goal
 use Rattle.mm_axioms.proofs.report.marked_among.Goals.{then-is_marked+in_ok-push, else-is_marked}
 

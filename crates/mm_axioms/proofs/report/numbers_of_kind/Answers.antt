@@ -3,7 +3,7 @@ use Rattle.std.proofs.Common.{ℕ, refl, arith}
 use Rattle.mm_frame.specs.Taken.{kind_behind}
 use Rattle.mm_frame.specs.Numbers.{IsLabelNumber}
 use Rattle.mm_axioms.specs.Mirror.Tables.{IsOfKind}
-use Rattle.mm_axioms.proofs.Resting.RestsOn.{up_to_taken, up_to_passed, up_to_ended}
+use Rattle.mm_rules.proofs.OrderedNumbers.{up_to_taken, up_to_passed, up_to_ended}
 use Rattle.mm_axioms.proofs.Resting.AllReports.{kind_at, no_kind_at, no_more_of_kind, below_most}
 use Rattle.mm_axioms.proofs.report.numbers_of_kind.Goals as goal
 use Rattle.mm_axioms.proofs.report.numbers_of_kind.Goals.{then-is_same+in_ok-push, else-is_same}

@@ -5,7 +5,7 @@ use Rattle.mm_frame.specs.Rules.{AllMeant}
 use Rattle.mm_frame.specs.Sentence.{Sentence}
 use Rattle.mm_rules.specs.Conclusion.{Conclusion}
 use Rattle.mm_verdict.proofs.Verdicts.AcceptedStatements.{KeptWell}
-use Rattle.mm_diff.proofs.CheckedTheorems.{few_kept, kept_meant}
+use Rattle.mm_alike.proofs.CheckedTheorems.{few_kept, kept_meant}
 use Rattle.mm_diff.proofs.DiffReplies.{changes_told, changes_within}
 use Rattle.mm_diff.proofs.changes.changes_between.Goals as goal
 

@@ -11,7 +11,7 @@ use Rattle.mm_diff.specs.Diff.{AreRenamed}
 use Rattle.mm_diff.specs.Mirror.Changes.{plain_renaming}
 use Rattle.mm_diff.specs.Mirror.Depends.{AreOthersSettled}
 use Rattle.mm_diff.specs.Mirror.Twins.{TellRenamed}
-use Rattle.mm_diff.proofs.CheckedTheorems.{few_kept, kept_meant}
+use Rattle.mm_alike.proofs.CheckedTheorems.{few_kept, kept_meant}
 use Rattle.mm_diff.proofs.FurtherAxioms.{paired_unsettled}
 use Rattle.mm_diff.proofs.OneAssertions.{renamed_tells, turned_tells}
 use Rattle.mm_diff.proofs.StayingTheorems.{others_settled}

@@ -1,7 +1,7 @@
 -- By its mark, and whether it is a theorem in both.
 use Rattle.std.proofs.Common.{ℕ, refl, sym, subst, ◌∙◌}
 use Rattle.std.proofs.lemmas.Bool.{false≢true}
-use Rattle.mm_diff.specs.Mirror.Databases.{IsTheorem}
+use Rattle.mm_alike.specs.Mirror.Databases.{IsTheorem}
 use Rattle.mm_diff.proofs.OneAssertions.{one_labelled, one_turned}
 use Rattle.mm_diff.proofs.StayingTheorems.{one_twin}
 use Rattle.mm_diff.proofs.depends.is_unsettled.Goals as goal

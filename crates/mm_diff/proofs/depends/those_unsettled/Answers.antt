@@ -1,7 +1,7 @@
 -- One more number, which is taken or passed over.
 use Rattle.std.proofs.Common.{ℕ, refl, sym, ◌∙◌, arith}
 use Rattle.std.proofs.lemmas.Bool.{false≢true}
-use Rattle.mm_axioms.proofs.Resting.RestsOn.{up_to_taken, up_to_passed, up_to_ended}
+use Rattle.mm_rules.proofs.OrderedNumbers.{up_to_taken, up_to_passed, up_to_ended}
 use Rattle.mm_diff.specs.Mirror.Depends.{IsUnsettled}
 use Rattle.mm_diff.proofs.FurtherAxioms.{unsettled_within}
 use Rattle.mm_diff.proofs.OneAssertions.{within_end}

@@ -3,7 +3,7 @@ use Rattle.std.proofs.Common.{ℕ, List, get_or, map, sym, ◌∙◌}
 use Rattle.std.proofs.lemmas.Bool.{false≢true}
 use Rattle.std.proofs.lemmas.Option.{slice_get-get_or}
 use Rattle.mm_frame.specs.declared.number.LabelId.{LabelId}
-use Rattle.mm_axioms.proofs.Resting.RestsOn.{among_taken, among_passed}
+use Rattle.mm_rules.proofs.OrderedNumbers.{among_taken, among_passed}
 use Rattle.mm_diff.specs.Mirror.Depends.{HasTwinAmong}
 use Rattle.mm_diff.proofs.RenamedLabels.{all_passed}
 use Rattle.mm_diff.proofs.depends.those_without.Goals as goal

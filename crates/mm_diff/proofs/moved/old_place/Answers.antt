@@ -1,6 +1,6 @@
 -- Both databases have the label, and its number in the old one is among these.
 use Rattle.std.proofs.Common.{refl}
-use Rattle.mm_diff.proofs.DifferingNumbers.{named_by}
+use Rattle.mm_alike.proofs.DifferingNumbers.{named_by}
 use Rattle.mm_diff.proofs.MovedPlaces.{shared_asserts, shared_named}
 use Rattle.mm_diff.proofs.moved.old_place.Goals as goal
 

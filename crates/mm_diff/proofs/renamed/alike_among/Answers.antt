@@ -5,8 +5,8 @@ use Rattle.std.proofs.lemmas.Option.{slice_get-get_or}
 use Rattle.mm_base.proofs.Lists.{contains_from_at}
 use Rattle.mm_frame.specs.declared.number.LabelId.{LabelId}
 use Rattle.mm_frame.proofs.Names.NameNumbers.{get_mapped}
-use Rattle.mm_axioms.proofs.Resting.RestsOn.{among_taken, among_passed}
-use Rattle.mm_diff.specs.Diff.{AreAlike}
+use Rattle.mm_rules.proofs.OrderedNumbers.{among_taken, among_passed}
+use Rattle.mm_alike.specs.Alike.{AreAlike}
 use Rattle.mm_diff.proofs.RenamedLabels.{all_passed, alone_asserts}
 use Rattle.mm_diff.proofs.renamed.alike_among.Goals as goal
 use Rattle.mm_diff.proofs.renamed.alike_among.Goals.{then-are_alike+in_ok-push, else-are_alike}

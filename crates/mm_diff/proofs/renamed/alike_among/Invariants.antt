@@ -1,7 +1,7 @@
 -- Those that say the same among the numbers so far.
 use Rattle.std.proofs.Common.{map, take, Contains}
 use Rattle.mm_rules.specs.Rests.{AreInOrder}
-use Rattle.mm_diff.specs.Diff.{AreAlike}
+use Rattle.mm_alike.specs.Alike.{AreAlike}
 use Rattle.mm_diff.proofs.renamed.alike_among.Given as goal
 
 abbrev pub invariant-loop-one : goal.invariant-loop-one

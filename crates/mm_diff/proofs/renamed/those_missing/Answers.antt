@@ -4,8 +4,9 @@ use Rattle.std.proofs.lemmas.Option.{slice_get-get_or}
 use Rattle.mm_base.proofs.Lists.{contains_from_at}
 use Rattle.mm_frame.specs.declared.number.LabelId.{LabelId}
 use Rattle.mm_frame.proofs.Names.NameNumbers.{get_mapped}
-use Rattle.mm_axioms.proofs.Resting.RestsOn.{among_taken, among_passed}
-use Rattle.mm_diff.specs.Diff.{IsAlone, IsMissing, IsRenamed}
+use Rattle.mm_rules.proofs.OrderedNumbers.{among_taken, among_passed}
+use Rattle.mm_diff.specs.Diff.{IsMissing, IsRenamed}
+use Rattle.mm_alike.specs.Alike.{IsAlone}
 use Rattle.mm_diff.proofs.RenamedLabels.{all_passed, alone_asserts, among_order, told_none, told_some}
 use Rattle.mm_diff.proofs.renamed.those_missing.Goals as goal
 use Rattle.mm_diff.proofs.renamed.those_missing.Goals.{then-is_none+in_ok-push, else-is_none}

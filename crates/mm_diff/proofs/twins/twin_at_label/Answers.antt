@@ -1,7 +1,7 @@
 -- By its kind.
 use Rattle.std.proofs.Common.{inl, inr, refl}
 use Rattle.mm_base.specs.declared.statement.Kind.TheVariants.{Floating, Essential, Axiom, Provable}
-use Rattle.mm_diff.proofs.DifferingNumbers.{asserts_by}
+use Rattle.mm_alike.proofs.DifferingNumbers.{asserts_by}
 use Rattle.mm_diff.proofs.OneAssertions.{hypothesis_alone}
 use Rattle.mm_diff.proofs.twins.twin_at_label.Goals as goal
 

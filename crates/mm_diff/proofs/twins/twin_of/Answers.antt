@@ -1,7 +1,7 @@
 -- By its label, or as one that is renamed.
 use Rattle.std.proofs.Common.{inl, map, refl}
 use Rattle.mm_diff.specs.Mirror.Changes.{plain_renaming}
-use Rattle.mm_diff.proofs.DifferingNumbers.{named_by}
+use Rattle.mm_alike.proofs.DifferingNumbers.{named_by}
 use Rattle.mm_diff.proofs.OneAssertions.{no_twin, twin_renamed}
 use Rattle.mm_diff.proofs.twins.twin_of.Goals as goal
 

@@ -7,7 +7,7 @@ use Rattle.mm_step.specs.Plain.{ids_in}
 use Rattle.mm_rules.specs.Conclusion.{Conclusion}
 use Rattle.mm_rules.specs.Mirror.Marks.{UsedIn}
 use Rattle.mm_rules.specs.Rests.{AreInOrder}
-use Rattle.mm_axioms.proofs.Resting.RestsOn.{among_taken, among_passed}
+use Rattle.mm_rules.proofs.OrderedNumbers.{among_taken, among_passed}
 use Rattle.mm_minimize.proofs.ShorterTheorems.ShorterProofs.{newly_told}
 use Rattle.mm_verdict.proofs.Verdicts.AcceptedStatements.{AreOf, read_statements, KeptWell}
 use Rattle.mm_verdict.proofs.Verdicts.StatementByStatement.{all_meant}

@@ -1,0 +1,11 @@
+pub mod AlikeLists
+pub mod CheckedTheorems
+pub mod ComparedFrames
+pub mod ComparedNames
+pub mod ComparedPairs
+pub mod DifferingNumbers
+pub mod KeptWidths
+pub mod ProofWords
+pub mod SharedTrees
+pub mod TreesOfBoth
+pub mod WidthsInBoth

@@ -1,8 +1,0 @@
--- By the bytes of the names.
-use Rattle.mm_diff.proofs.ComparedNames.{one_name}
-use Rattle.mm_diff.proofs.names.have_one_name.Goals as goal
-
-pub returns : goal.returns
-returns c =
-    one_name _ _ c.name.result.now c.name-2.result.now c.eq.result c.name.ensures
-    c.name-2.ensures c.eq.ensures

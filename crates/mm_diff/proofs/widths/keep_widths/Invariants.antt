@@ -1,8 +1,0 @@
--- Each label so far keeps its width.
-use Rattle.std.proofs.Common.{ℕ, ◌<◌}
-use Rattle.mm_diff.specs.Mirror.Steps.{KeepsWidth}
-use Rattle.mm_diff.proofs.widths.keep_widths.Given as goal
-
-abbrev pub invariant-loop-number : goal.invariant-loop-number
-invariant-loop-number l =
-    (n : ℕ) → n < l.number → KeepsWidth l.book.statements l.other.statements n
