@@ -373,12 +373,43 @@ def mended(folder, size):
     return asked(1, "mend th f.mm")
 
 
+def shared_labels(folder, size):
+    """So many labels, and as many proofs at fault, each of which names all of them."""
+    labels = (f"l{at} $a |- a $.\n" for at in range(size))
+    named = " ".join(f"l{at}" for at in range(size))
+    write(folder, "bad.mm", HEAD, labels, (f"t{at} $p |- b $= {named} $.\n" for at in range(size)))
+    return asked(1, "faults bad.mm", "why bad.mm", "why --source bad.mm")
+
+
+def versions(folder, size):
+    """Two versions of so many theorems, each by the one before and an axiom of its own, of which the
+    first depends on another axiom in each version."""
+    step = "${ e $e |- x $. f $e |- y $. mp $a |- x $. $}\n"
+    for name in ("old", "new"):
+        theorems = (f"a{at} $a |- x $. t{at} $p |- x $= fx fx fx t{at - 1} fx a{at} mp $.\n"
+                    for at in range(1, size))
+        write(folder, f"{name}.mm", HEAD, step, "old $a |- x $. new $a |- x $.\n",
+              f"t0 $p |- x $= fx {name} $.\n", theorems)
+    return asked(1, "diff old.mm new.mm")
+
+
+def variants(folder, size):
+    """Assertions of so many symbols, and a pattern of as many, of which none has but the last."""
+    write(folder, "f.mm", HEAD, (f"s{at} $a |- {'x y ' * size}$.\n" for at in range(8)))
+    pattern = "x y " * (size // 2) + "x x"
+    return [Question(["find", "--shape", pattern, "f.mm"], 0),
+            Question(["find", pattern, "f.mm"], 0)]
+
+
 # Why the time or the memory of a question grows faster than its bytes, by the case and the command.
 REASONS = {
     ("distinct", "check"): "a `$d` of n variables states n (n - 1) / 2 pairs, and each is judged",
     ("distinct", "show"): "as `check`",
     ("distinct", "statement"): "as `check`; and the reply has a line for each pair",
     ("distinct", "axioms"): "as `check`",
+    ("versions", "diff"): "a theorem depends on the axioms of all before it, and all of these are "
+                          "compared with those on which it depended",
+    ("variants", "find"): "a pattern is compared at each place of an expression",
     ("mended", "mend"): "some sixty changes of each byte are judged from the first step on, as long as "
                         "those of one kind have 200,000 bytes",
 }
@@ -402,6 +433,9 @@ CASES = [
     ("theorems, each by an incomplete one", unproved, 25_000),
     ("steps of a proof", long_proof, 500_000),
     ("proofs at fault", many_faults, 50_000),
+    ("labels that as many proofs at fault name", shared_labels, 400),
+    ("theorems of two versions, each by the one before", versions, 1_500),
+    ("symbols of an expression, and half as many of a pattern", variants, 400),
     ("bytes of a label and of a symbol", long_names, 5_000_000),
     ("bytes of two labels that are near", near_names, 5_000),
     ("labels as long as one that is sought", many_near, 100),
