@@ -1,7 +1,8 @@
 //! Lemmas that a library lacks, as they are told.
 
 use crate::names::Words;
-use mm_frame::{LabelId, Piece, Sym};
+use mm_frame::{LabelId, Piece};
+use mm_patterns::Pattern;
 
 /// What a step of a lemma's proof is by.
 #[derive(Clone, Copy, PartialEq, Eq, Debug)]
@@ -23,16 +24,12 @@ pub struct Lemma {
     pub place: u32,
     /// What the other step is by.
     pub lower: Part,
-    /// The type codes of its variables.
-    pub variables: Vec<Sym>,
-    /// How many of them stand in its statement: the first ones.
-    pub mandatory: usize,
+    /// What the two steps make: its variables, its distinct pairs and its proof.
+    pub pattern: Pattern,
     /// Its hypotheses, in which variables stand by their numbers.
     pub hypotheses: Vec<Vec<Piece>>,
     /// What it concludes.
     pub conclusion: Vec<Piece>,
-    /// The distinct pairs that its proof asks for, by the numbers of its variables.
-    pub pairs: Vec<(u32, u32)>,
     /// How many steps are by it in the proofs that become smaller.
     pub uses: u32,
     /// How many these proofs are.

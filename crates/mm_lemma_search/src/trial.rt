@@ -237,7 +237,7 @@ impl Search {
         let text = text.saturating_add(self.proof_bytes(change, budget)?);
         let changed = self.try_each(change, places, budget)?;
         let saved = saved_in(&changed).saturating_sub(text);
-        match self.spot(&changed) {
+        match self.spot(digram, &changed) {
             Some(spot) if saved > 0 && !budget.is_used_up() => Ok(Some(Savings {
                 changed,
                 spot,
@@ -347,9 +347,9 @@ impl Search {
         }))
     }
 
-    // Where a lemma stands that these proofs use: before the first of them, or, where several
-    // mathboxes have them and no other place, before all mathboxes.
-    fn spot(&self, changed: &[Changed]) -> Option<Spot> {
+    // Where the lemma of a digram stands that these proofs use: before the first of them, or, where
+    // several mathboxes have them and no other place, before all mathboxes.
+    fn spot(&self, digram: Digram, changed: &[Changed]) -> Option<Spot> {
         let mut spot: Option<Spot> = None;
         let mut is_shared = false;
         for proof in changed {
@@ -368,12 +368,18 @@ impl Search {
         }
         let spot = spot?;
         if is_shared && spot.mathbox != 0 {
-            return Some(Spot {
-                block: self.first_mathbox?,
-                mathbox: 0,
-            });
+            return self.shared_spot(digram);
         }
         Some(spot)
+    }
+
+    // The spot before all mathboxes; none where what the digram is of isn't there yet.
+    fn shared_spot(&self, digram: Digram) -> Option<Spot> {
+        let block = self.first_mathbox?;
+        if self.bounds(digram)?.from > block {
+            return None;
+        }
+        Some(Spot { block, mathbox: 0 })
     }
 
     // The bytes of a lemma's own proof.

@@ -36,17 +36,33 @@ pub struct LemmaList {
     pub is_cut: bool,
 }
 
-// What a search found, and whether it was broken off.
+/// What a search found, and whether it was broken off.
 #[derive(Drop)]
-struct FoundLemmas {
-    lemmas: Vec<Lemma>,
-    is_cut: bool,
+pub struct FoundLemmas {
+    pub lemmas: Vec<Lemma>,
+    pub is_cut: bool,
 }
 
-// About how many bytes a lemma's label has, and a comment.
-const LABEL_BYTES: u64 = 6;
+/// A search, and what it found.
+#[derive(Drop)]
+pub struct Searched {
+    /// The library and its proofs, as they are with the lemmas.
+    pub search: Search,
+    pub found: FoundLemmas,
+}
 
-const COMMENT_BYTES: u64 = 58;
+/// About how many bytes the label and the comment of a lemma have.
+#[derive(Clone, Copy)]
+pub struct Wording {
+    pub label: u64,
+    pub comment: u64,
+}
+
+// Those of lemmas as keepers write them.
+const USUAL: Wording = Wording {
+    label: 6,
+    comment: 58,
+};
 
 // The type code of the variable of a `$f`.
 fn floating_code(book: &Book, id: LabelId) -> Option<Sym> {
@@ -154,6 +170,34 @@ fn take_each<'a>(
     Ok(())
 }
 
+/// The search for the lemmas of a database of which this is said; none where nothing is provable. It
+/// rewrites no settled proof.
+pub fn lemma_search<W: Watch>(
+    alloc: Global,
+    checked: &Checked,
+    remarks: &Remarks,
+    selection: Selection,
+    wording: Wording,
+    watch: &mut W,
+) -> Result<Option<Searched>, AskFault>
+    ensures memory { IfErr result (λ fault. fault ≡ Memory) }
+{
+    let count = next_number(remarks.remarks.len());
+    let Some(provable) = provable_code(alloc, &checked.book, count)? else {
+        return Ok(None);
+    };
+    let library = library_of(alloc, &checked.book, &remarks.remarks, provable)?;
+    let mut search = Search::new(library, remarks.first_mathbox);
+    let wanted = wanted_by(selection, wording, words_of(remarks));
+    match search_for(&mut search, alloc, checked, &remarks.remarks, wanted, watch) {
+        Ok(found) => Ok(Some(Searched { search, found })),
+        Err(fault) => {
+            drop(search);
+            Err(fault)
+        }
+    }
+}
+
 // The lemmas of a database of which this is said.
 fn found<W: Watch>(
     alloc: Global,
@@ -164,18 +208,16 @@ fn found<W: Watch>(
 ) -> Result<FoundLemmas, AskFault>
     ensures memory { IfErr result (λ fault. fault ≡ Memory) }
 {
-    let count = next_number(remarks.remarks.len());
-    let Some(provable) = provable_code(alloc, &checked.book, count)? else {
-        return Ok(FoundLemmas {
+    match lemma_search(alloc, checked, remarks, selection, USUAL, watch)? {
+        Some(Searched { search, found }) => {
+            drop(search);
+            Ok(found)
+        }
+        None => Ok(FoundLemmas {
             lemmas: Vec::new(alloc),
             is_cut: false,
-        });
-    };
-    let library = library_of(alloc, &checked.book, &remarks.remarks, provable)?;
-    let mut search = Search::new(library, remarks.first_mathbox);
-    let outcome = search_for(&mut search, alloc, checked, remarks, selection, watch);
-    drop(search);
-    outcome
+        }),
+    }
 }
 
 // The lemmas that a search finds.
@@ -183,15 +225,14 @@ fn search_for<W: Watch>(
     search: &mut Search,
     alloc: Global,
     checked: &Checked,
-    remarks: &Remarks,
-    selection: Selection,
+    remarks: &[Remark],
+    wanted: Wanted,
     watch: &mut W,
 ) -> Result<FoundLemmas, AskFault>
     ensures memory { IfErr result (λ fault. fault ≡ Memory) }
 {
-    take_each(search, alloc, checked, &remarks.remarks)?;
+    take_each(search, alloc, checked, remarks)?;
     let mut budget = Budget::new(LEMMA_STEPS);
-    let wanted = wanted_by(selection, words_of(remarks));
     let lemmas = search.lemmas(wanted, &mut budget, watch)?;
     Ok(FoundLemmas {
         lemmas,
@@ -208,12 +249,16 @@ fn words_of<'w, 'a>(remarks: &'w Remarks<'a>) -> Words<'w, 'a> {
 }
 
 // What is wanted of the lemmas that are asked for.
-fn wanted_by<'w, 'a>(selection: Selection, words: Words<'w, 'a>) -> Wanted<'w, 'a> {
+fn wanted_by<'w, 'a>(
+    selection: Selection,
+    wording: Wording,
+    words: Words<'w, 'a>,
+) -> Wanted<'w, 'a> {
     Wanted {
         most: selection.most,
         least: selection.least as u64,
-        label: LABEL_BYTES,
-        comment: COMMENT_BYTES,
+        label: wording.label,
+        comment: wording.comment,
         words,
     }
 }

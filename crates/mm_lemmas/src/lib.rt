@@ -9,4 +9,4 @@ mod lacking;
 mod listing;
 mod told;
 
-pub use lacking::{LemmaList, Selection, lemma_list};
+pub use lacking::{FoundLemmas, LemmaList, Searched, Selection, Wording, lemma_list, lemma_search};

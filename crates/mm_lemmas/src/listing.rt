@@ -152,7 +152,7 @@ fn wanted_of<'a>(
     let Some(source) = source_of(checked, lines, before, lemma) else {
         return Ok(None);
     };
-    let Some(variables) = words.variables.of(&lemma.variables, lemma.block)? else {
+    let Some(variables) = words.variables.of(&lemma.pattern.variables, lemma.block)? else {
         return Ok(None);
     };
     match told_of(alloc, &variables, words.names, lemma, source)? {

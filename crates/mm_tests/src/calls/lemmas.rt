@@ -2,6 +2,7 @@
 
 use mm_base::{File, Seed};
 use mm_check::{Command, reply_to};
+use mm_lemma_file::{LemmaWish, lemma_file};
 use mm_lemmas::{Selection, lemma_list};
 use mm_minimize::{SearchWatch, Searched};
 use mm_rules::Status;
@@ -33,6 +34,30 @@ const LEMMA: &[u8] =
 ";
 
 const NONE: &[u8] = b"0 lemmas 0 0\n";
+
+/// The file with that lemma, right before the first theorem that uses it.
+const WITH_LEMMA: &[u8] = b"$c ( or ) wff |- a $. $v P Q $. wp $f wff P $. wq $f wff Q $.
+wa $a wff a $. wor $a wff ( P or Q ) $. given $a |- a $.
+${ weaker.1 $e |- P $. disjunction-is-weaker $a |- ( P or Q ) $. $}
+${ commutes.1 $e |- ( P or Q ) $. disjunction-is-commutative $a |- ( Q or P ) $. $}
+  ${
+    new1.1 $e |- P $.
+    $( Weaken and commute. $)
+    new1 $p |- ( Q or P ) $=
+      ( disjunction-is-weaker disjunction-is-commutative ) ABABCDE $.
+  $}
+
+one $p |- ( a or a ) $=
+( wa given new1 ) AABC $.
+two $p |- ( ( a or a ) or a ) $=
+( wa wor given new1 ) AAABCD $.
+three $p |- ( ( ( a or a ) or a ) or a ) $=
+( wa wor given new1 ) AAABABCD $.
+four $p |- ( ( ( ( a or a ) or a ) or a ) or a ) $=
+( wa wor given new1 ) AAABABABCD $.
+five $p |- ( ( ( ( ( a or a ) or a ) or a ) or a ) or a ) $=
+( wa wor given new1 ) AAABABABABCD $.
+";
 
 /// Keeps what it was told last, and what the search came to.
 #[derive(Clone, Copy)]
@@ -100,6 +125,32 @@ fn tells_a_lemma(rt: HostRuntime) -> Result<(), Fail> {
             bytes: 27,
         })
     );
+    Ok(())
+}
+
+#[test]
+fn puts_a_lemma_in(rt: HostRuntime) -> Result<(), Fail> {
+    let files = [File {
+        name: b"a.mm",
+        bytes: LACKING,
+    }];
+    let checked = check(rt.alloc(), Seed::known(), &files)
+        .ok()
+        .ok_or("refused")?;
+    for (most, edits, bytes) in [(1, 6, WITH_LEMMA), (0, 0, LACKING)] {
+        let wish = LemmaWish {
+            number: 0,
+            selection: Selection { most, least: 1 },
+            prefix: b"new",
+            comment: Some(b"Weaken and commute."),
+        };
+        let file = lemma_file(rt.alloc(), &checked, wish, &mut untold())
+            .ok()
+            .ok_or("no file")?;
+        assert!(rt; file.bytes.as_slice() == bytes);
+        assert_eq!(rt; file.edits.len(), edits);
+        assert!(rt; !file.is_cut);
+    }
     Ok(())
 }
 
