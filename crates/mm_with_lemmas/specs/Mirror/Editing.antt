@@ -1,0 +1,126 @@
+-- What the code knows of the changes of a file: where they stand, and what the texts that are put
+-- in hold. This file mirrors the code.
+use Rattle.std.specs.Prelude.{◌≡◌, ℕ, ◌≤◌, List, [], ◌∷◌, ◌++◌, map, length, Contains, None}
+use Rattle.std.specs.Prelude.{true}
+use Rattle.std.specs.List.{flat_map, AllByRecursion, AllZip}
+use Rattle.mm_base.specs.Statement.{PlainStatement, plain_statement}
+use Rattle.mm_text.specs.Files.{PlainFile}
+use Rattle.mm_text.specs.Reading.{Reads}
+use Rattle.mm_text.specs.Remaining.{Remaining}
+use Rattle.mm_render.specs.Shorter.{IsMarkedWith, proof_mark}
+use Rattle.mm_rules.specs.Verdict.{is_proof}
+use Rattle.mm_save.specs.AllSaved.{Replacement, theorems_of}
+use Rattle.mm_save.specs.Mirror.AllSaving.{AreReplacedUpTo}
+use Rattle.mm_save.specs.WithLemmas.{AreApart, AreEdited, Edit, alone}
+use Rattle.mm_with_lemmas.specs.declared.change.Change.{Change}
+use Rattle.mm_with_lemmas.specs.declared.change.Change.TheVariants.{Proof, Lemmas}
+use Rattle.mm_with_lemmas.specs.declared.lone.Put.{Put}
+
+-- ---- the places
+
+-- a span and what stands in its place
+abbrev pub place_of : Change → Replacement
+place_of (Proof span text) = record { span = span; text = text.now }
+place_of (Lemmas at text) = record { span = (at, at); text = text.now }
+
+abbrev pub places_of : List Change → List Replacement
+places_of changes = map place_of changes
+
+-- the bytes are those of the source up to a position with these changes, and then the rest
+pub record IsEditedUpTo (source : List ℕ) (done : List Change) (taken : ℕ)
+    (bytes rest : List ℕ) : Type 0 where
+  pub within : taken ≤ length source
+  pub apart : AreApart taken (places_of done)
+  pub before : List ℕ
+  pub up_to : AreReplacedUpTo taken source (places_of done) before
+  pub whole : bytes ≡ before ++ rest
+
+-- ---- proofs
+
+-- the span of a change that replaces a proof
+abbrev pub proof_span : Change → List (ℕ × ℕ)
+proof_span (Proof span text) = span ∷ []
+proof_span (Lemmas at text) = []
+
+-- of all of them, in their order
+abbrev pub proof_spans : List Change → List (ℕ × ℕ)
+proof_spans changes = flat_map proof_span changes
+
+-- the statement is a theorem of the file with the number, its proof stands in the span, and it
+-- isn't marked
+pub record IsTheoremAt (files : List PlainFile) (number : ℕ) (place : ℕ × ℕ)
+    (s : PlainStatement) : Type 0 where
+  pub home : s.first.file ≡ number
+  pub span : s.span ≡ place
+  pub complete : is_proof s ≡ true
+  pub unmarked : ¬ (IsMarkedWith proof_mark files s)
+
+-- the span is that of the proof of a theorem of the file with the number that isn't marked
+abbrev pub IsReplaceable : List PlainFile → List PlainStatement → (number : ℕ) → ℕ × ℕ → Type 0
+IsReplaceable files statements number span =
+    (s : PlainStatement) × Contains (theorems_of number statements) s
+    × ¬ (IsMarkedWith proof_mark files s) × (span ≡ s.span)
+
+-- each of them is
+abbrev pub AreReplaceable : List PlainFile → List PlainStatement → (number : ℕ) → List (ℕ × ℕ)
+    → Type 0
+AreReplaceable files statements number spans =
+    AllByRecursion (IsReplaceable files statements number) spans
+
+-- a change that replaces a proof has such a span
+abbrev pub IsPlaced : List PlainFile → List PlainStatement → (number : ℕ) → Change → Type 0
+IsPlaced files statements number (Proof span text) = IsReplaceable files statements number span
+IsPlaced files statements number (Lemmas at text) = Unit {0}
+
+abbrev pub ArePlaced : List PlainFile → List PlainStatement → (number : ℕ) → List Change → Type 0
+ArePlaced files statements number changes =
+    AllByRecursion (IsPlaced files statements number) changes
+
+-- ---- lemmas
+
+-- a file of the text alone
+abbrev pub lone_file : Change → PlainFile
+lone_file change = record { name = []; bytes = (place_of change).text }
+
+-- the statements that were put
+abbrev pub put_statements : List Put → List PlainStatement
+put_statements put = map (λ p. plain_statement p.statement) put
+
+-- of the statements that are left of a text some were appended to those before, and these are left
+pub record HasPushed (first left : Remaining) (before put : List PlainStatement) : Type 0 where
+  pub pushed : List PlainStatement
+  pub whole : first.statements ≡ pushed ++ left.statements
+  pub all : put ≡ before ++ pushed
+  pub ending : left.ending ≡ first.ending
+
+-- lemmas are put in
+abbrev pub PutsIn : Change → Type 0
+PutsIn (Proof span text) = ⊥
+PutsIn (Lemmas at text) = Unit {0}
+
+-- what the change is: a proof, or a text that reads by itself as these statements
+abbrev pub IsEditOf : Change → Edit → Type 0
+IsEditOf (Proof span text) edit =
+    (edit.place ≡ place_of (Proof span text)) × (edit.lemmas ≡ [])
+IsEditOf (Lemmas at text) edit =
+    (edit.place ≡ place_of (Lemmas at text)) × Reads (alone edit.place.text) edit.lemmas None
+
+-- the change puts these statements in behind those before
+abbrev pub PutsMore : Change → (before put : List PlainStatement) → Type 0
+PutsMore change before put =
+    (edit : Edit) × IsEditOf change edit × (put ≡ before ++ edit.lemmas)
+
+-- the changes put these statements in, in their order
+abbrev pub ArePut : List Change → List PlainStatement → Type 0
+ArePut changes put =
+    (edits : List Edit) × AllZip IsEditOf changes edits
+    × (put ≡ flat_map (λ e. e.lemmas) edits)
+
+-- ---- the whole
+
+-- the bytes are those of the file with changes that put these statements in, and no more than it
+-- had
+abbrev pub IsEdited : List PlainFile → List PlainStatement → (number : ℕ) → (old bytes : List ℕ)
+    → (put : List PlainStatement) → Type 0
+IsEdited files statements number old bytes put =
+    AreEdited files statements number old bytes put × (length bytes ≤ length old)

@@ -1,0 +1,160 @@
+-- What the code knows on its way through two readings side by side: the old statements, and those
+-- of the files with lemmas. This file mirrors the code.
+use Rattle.std.specs.Prelude.{◌≡◌, ℕ, ◌+◌, ◌≤◌, List, [], ◌∷◌, ◌++◌, map, take, length, slice_get}
+use Rattle.std.specs.Prelude.{Some, true, ◌⊎◌, All, sum_by, is_some, if◌then◌else◌}
+use Rattle.std.specs.List.{flat_map, AllByRecursion}
+use Rattle.mm_base.specs.declared.statement.Kind.{Kind}
+use Rattle.mm_base.specs.declared.statement.Kind.TheVariants.{Opening, Closing}
+use Rattle.mm_base.specs.MostBytes.{most_bytes}
+use Rattle.mm_base.specs.Statement.{PlainStatement, HasForm}
+use Rattle.mm_text.specs.Files.{PlainFile}
+use Rattle.mm_frame.specs.Active.{open_marks, close_marks}
+use Rattle.mm_frame.specs.Sentence.{Sentence}
+use Rattle.mm_rules.specs.Verdict.{is_proof, proof_of, sentences}
+use Rattle.mm_verdict.specs.Mirror.Rereading.{label_count}
+use Rattle.mm_save.specs.WithLemmas.{AreEdited, IsBlockOf, IsCondition, MayStand, Part}
+use Rattle.mm_save.specs.WithLemmas.{new_of, old_of, put_of, said}
+use Rattle.mm_with_lemmas.specs.declared.lemma.Stage.{Stage}
+use Rattle.mm_with_lemmas.specs.declared.lemma.Stage.TheVariants.{Outside, Conditions, Proved}
+use Rattle.mm_with_lemmas.specs.declared.lemma.Place.{Place}
+
+-- ---- the parts of two readings
+
+-- The old statements, and those of the files with lemmas, part by part: each may stand where it
+-- does, and the lemmas say what was put.
+pub record AreParts (files : List PlainFile)
+    (statements others put : List PlainStatement) : Type 0 where
+  pub parts : List Part
+  pub old : statements ≡ flat_map old_of parts
+  pub new : others ≡ flat_map new_of parts
+  pub each : (before after : List Part) (part : Part) → parts ≡ before ++ part ∷ after
+      → MayStand files (flat_map new_of before) part
+  pub lemmas : map said put ≡ map said (flat_map put_of parts)
+
+-- The statements are those of the files, the others those of the files with these bytes in place
+-- of those that the file with the number had: the file has lemmas and new proofs that may stand
+-- there, whatever these use.
+pub record HoldsLemmas (files : List PlainFile) (statements others : List PlainStatement)
+    (number : ℕ) (old_bytes bytes : List ℕ) : Type 0 where
+  pub parts : List Part
+  pub old : statements ≡ flat_map old_of parts
+  pub new : others ≡ flat_map new_of parts
+  pub each : (before after : List Part) (part : Part) → parts ≡ before ++ part ∷ after
+      → MayStand files (flat_map new_of before) part
+  pub edited : AreEdited files statements number old_bytes bytes (flat_map put_of parts)
+  pub no_longer : length bytes ≤ length old_bytes
+
+-- ---- blocks
+
+-- so many blocks are open after these statements
+abbrev pub IsDepth : List PlainStatement → ℕ → Type 0
+IsDepth taken depth = open_marks (sentences taken) ≡ close_marks (sentences taken) + depth
+
+-- so many after one more, of this kind
+abbrev pub IsDepthAfter : (depth : ℕ) → Kind → (after : ℕ) → Type 0
+IsDepthAfter depth Opening after = after ≡ depth + 1
+IsDepthAfter depth Closing after = depth ≡ after + 1
+IsDepthAfter depth kind after = after ≡ depth
+
+-- ---- a lemma on its way
+
+-- the beginning of its block, with conditions
+pub record IsBlockBegun (partial : List PlainStatement) : Type 0 where
+  pub opening : PlainStatement
+  pub conditions : List PlainStatement
+  pub whole : partial ≡ opening ∷ conditions
+  pub opens : opening.kind ≡ Opening
+  pub each : All IsCondition conditions
+
+-- its block but for the end
+pub record IsBlockProved (partial : List PlainStatement) : Type 0 where
+  pub theorem : PlainStatement
+  pub complete : is_proof theorem ≡ true
+  pub opening : PlainStatement
+  pub conditions : List PlainStatement
+  pub whole : partial ≡ opening ∷ conditions ++ theorem ∷ []
+  pub opens : opening.kind ≡ Opening
+  pub each : All IsCondition conditions
+
+-- all of it
+pub record IsWholeLemma (lemma : List PlainStatement) : Type 0 where
+  pub theorem : PlainStatement
+  pub complete : is_proof theorem ≡ true
+  pub alone : (lemma ≡ theorem ∷ []) ⊎ IsBlockOf theorem lemma
+
+-- so much of it was met
+abbrev pub IsBegun : Stage → (partial : List PlainStatement) → Type 0
+IsBegun Outside partial = partial ≡ []
+IsBegun Conditions partial = IsBlockBegun partial
+IsBegun Proved partial = IsBlockProved partial
+
+-- so much of it was met, its last statement among it
+abbrev pub IsGrown : Stage → (partial : List PlainStatement) → Type 0
+IsGrown Outside partial = IsWholeLemma partial
+IsGrown Conditions partial = IsBlockBegun partial
+IsGrown Proved partial = IsBlockProved partial
+
+-- ---- one statement more
+
+-- the statement is the next one that was put, and goes on with a lemma
+pub record MeetsPut (put : List PlainStatement) (old : Place) (s : PlainStatement)
+    (new : Place) : Type 0 where
+  pub next : PlainStatement
+  pub there : slice_get put old.put ≡ Some next
+  pub same : said s ≡ said next
+  pub count : new.put ≡ old.put + 1
+  pub depth : IsDepthAfter old.depth s.kind new.depth
+  pub outside : old.stage ≡ Outside → old.depth ≡ 0
+  pub grown : (partial : List PlainStatement) → IsBegun old.stage partial
+      → IsGrown new.stage (partial ++ s ∷ [])
+
+-- the statement was there, outside of all lemmas
+pub record MeetsKept (old : Place) (kind : Kind) (new : Place) : Type 0 where
+  pub before : old.stage ≡ Outside
+  pub after : new.stage ≡ Outside
+  pub count : new.put ≡ old.put
+  pub depth : IsDepthAfter old.depth kind new.depth
+
+-- the statement comes after these among those that the sentences say; it has this number, if it
+-- has a label, and the tokens of its proof have room
+pub record IsNext (told : List Sentence) (id : ℕ) (before : List PlainStatement)
+    (s : PlainStatement) : Type 0 where
+  pub after : List PlainStatement
+  pub same : told ≡ sentences (before ++ s ∷ after)
+  pub number : id ≡ label_count before
+  pub formed : HasForm s
+  pub room : sum_by length (proof_of s) ≤ most_bytes
+
+-- so many labelled statements with one more statement
+abbrev pub count_with : (labelled : ℕ) → PlainStatement → ℕ
+count_with labelled s = labelled + (if is_some s.label then 1 else 0)
+
+-- ---- the walk
+
+-- These statements of the files with lemmas were met, and the old ones but for those that are
+-- left: part by part, and perhaps the beginning of a lemma.
+pub record IsWalked (files : List PlainFile) (statements put taken left : List PlainStatement)
+    (at : Place) : Type 0 where
+  pub parts : List Part
+  pub partial : List PlainStatement
+  pub old : statements ≡ flat_map old_of parts ++ left
+  pub new : taken ≡ flat_map new_of parts ++ partial
+  pub each : (before after : List Part) (part : Part) → parts ≡ before ++ part ∷ after
+      → MayStand files (flat_map new_of before) part
+  pub lemmas : map said (flat_map put_of parts ++ partial) ≡ map said (take at.put put)
+  pub begun : IsBegun at.stage partial
+  pub outside : (at.stage ≡ Outside) ⊎ IsDepth (flat_map new_of parts) 0
+  pub depth : IsDepth taken at.depth
+
+-- a walk goes on over one more statement of the files with lemmas
+abbrev pub GoesOver : List PlainFile → (told : List Sentence) → (put : List PlainStatement)
+    → (id : ℕ) → (left : List PlainStatement) → Place → PlainStatement
+    → (left_after : List PlainStatement) → Place → Type 0
+GoesOver files told put id left at s left_after after =
+    (statements taken : List PlainStatement) → IsNext told id taken s
+    → IsWalked files statements put taken left at
+    → IsWalked files statements put (taken ++ s ∷ []) left_after after
+
+-- the tokens of each proof have room
+abbrev pub HaveRoom : List PlainStatement → Type 0
+HaveRoom statements = AllByRecursion (λ s. sum_by length (proof_of s) ≤ most_bytes) statements
