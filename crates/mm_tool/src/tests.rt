@@ -379,17 +379,15 @@ fn asks_for_a_file_behind_the_label(rt: HostRuntime) {
 #[test]
 fn takes_one_flag_of_show(rt: HostRuntime) {
     for (first, second) in [
-        ("--known", "--essential"),
-        ("--known", "--uses"),
         ("--uses", "--essential"),
         ("--letters", "--uses"),
         ("--essential", "--letters"),
     ] {
-        let words = ["mm", "show", first, second, "th", "first.mm"];
+        let words = ["mm", "show", "--known", first, second, "th", "first.mm"];
         let (status, out, err) = outcome_of(rt.alloc(), &words);
         assert_eq!(rt; status, 2);
         assert!(rt; out.is_empty());
-        assert!(rt; err.starts_with(b"mm: --essential and --uses stand alone\n"));
+        assert!(rt; err.starts_with(b"mm: --letters, --essential and --uses exclude each other\n"));
     }
 }
 
