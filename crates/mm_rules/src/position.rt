@@ -1,6 +1,7 @@
 //! Lines and columns, as a person counts them.
 
-ghost use Rattle.std.specs.Prelude.{◌≡◌, ◌≤◌, ◌==◌, List, ◌++◌, map, take, drop, count_by, OnOk};
+ghost use Rattle.std.specs.Prelude.{◌≡◌, ◌≤◌, ◌<◌, ◌==◌, List, ◌++◌, map, take, drop, length, OnOk};
+ghost use Rattle.std.specs.Prelude.{count_by};
 ghost use Rattle.mm_text.specs.Files.{plain_file};
 ghost use Rattle.mm_text.specs.LineNumbers.{line_in, line_of as line_at};
 ghost use Rattle.mm_base.specs.Token.{plain_token};
@@ -23,11 +24,35 @@ pub fn bytes_of<'a>(files: &[File<'a>], file: usize) -> &'a [u8]
     }
 }
 
+/// How many bytes are counted at once: no more than a byte can count.
+const PIECE: usize = 128;
+
+/// How many line feeds a piece of a text has.
+///
+/// They are added up in a byte, and without a test: so many bytes are looked at in one step.
+fn count_in_piece(piece: &[u8]) -> u8
+    requires { length piece.now < 256 }
+    ensures { result ≡ count_by (λ b. b == 10) piece.now }
+{
+    let mut count: u8 = 0;
+    for byte in piece {
+        count = count.wrapping_add((*byte == b'\n') as u8);
+    }
+    count
+}
+
 /// How many line feeds a text has.
 fn count_feeds(bytes: &[u8]) -> usize
     ensures { result ≡ count_by (λ b. b == 10) bytes.now }
 {
-    bytes.iter().filter(|byte| **byte == b'\n').count()
+    let mut count = 0;
+    let mut rest = bytes;
+    while !rest.is_empty() {
+        let (piece, after) = rest.split_at(rest.len().min(PIECE));
+        count += count_in_piece(piece) as usize;
+        rest = after;
+    }
+    count
 }
 
 /// The bytes of a text before a position.

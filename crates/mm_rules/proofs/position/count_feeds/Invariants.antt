@@ -1,0 +1,10 @@
+-- The line feeds are those that are counted and those of the rest.
+use Rattle.std.proofs.Common.{◌≡◌, ◌==◌, ◌+◌, length, count_by}
+use Rattle.mm_rules.proofs.position.count_feeds.Given as goal
+
+abbrev pub invariant-loop-rest : goal.invariant-loop-rest
+invariant-loop-rest l =
+    l.count + count_by (λ b. b == 10) l.rest ≡ count_by (λ b. b == 10) l.bytes
+
+abbrev pub decreases-loop-rest : goal.decreases-loop-rest
+decreases-loop-rest l = length l.rest
