@@ -51,8 +51,9 @@ use Rattle.mm_rules.specs.declared.judge.Judged.{Judged}
 use Rattle.mm_rules.specs.declared.judge.Judged.TheVariants.{Faulty}
 use Rattle.mm_rules.specs.Mirror.Visits.{IsMet, refusals_in}
 use Rattle.mm_rules.specs.declared.rule.Rule.TheVariants as rules
-use Rattle.mm_explain.specs.Mirror.Reasons.{IsRefusedLast, IsExplainedBut, AreExplained, Notes}
-use Rattle.mm_explain.specs.Mirror.Reasons.{AreNoted, Explains, HasExplained, most_kept, texts_in}
+use Rattle.mm_explain.specs.Mirror.Outlined.{IsOutlineOf}
+use Rattle.mm_explain.specs.Mirror.Reasons.{AreExplained, AreNoted, Explains, HasExplained}
+use Rattle.mm_explain.specs.Mirror.Reasons.{IsRefusedLast, Notes, most_kept, texts_in}
 use Rattle.mm_explain.specs.Mirror.Standing.{IsPlaced}
 use Rattle.mm_explain.specs.HypothesisPlaces.{AreHypothesisPlaces}
 use Rattle.mm_explain.specs.Unused.{AreUnused, unused_text}
@@ -79,13 +80,14 @@ some_more profile count some =
     false_from_ne_true (count == 0) (λ e. some (eqb-true count 0 e)) in
     rw other refl
 
--- head, facts, places, and the line of labels that no step is by
+-- head, facts, places, the line of labels that no step is by, and where a label is stated later
 pub explanation_told : (out head : List ℕ) (details places : List Detail) (line : List ℕ)
-    (o₁ o₂ o₃ o₄ : List ℕ) → o₁ ≡ out ++ head → o₂ ≡ o₁ ++ details_text details
-    → o₃ ≡ o₂ ++ details_text places → o₄ ≡ o₃ ++ line
-    → o₄ ≡ out ++ (head ++ details_text (details ++ places) ++ line)
-explanation_told out head details places line o₁ o₂ o₃ o₄ h₁ h₂ h₃ h₄ =
-    rw (h₄, h₃, h₂, h₁, flat_map-append detail_text details places) (simp append_assoc)
+    (later : List Detail) (o₁ o₂ o₃ o₄ o₅ : List ℕ) → o₁ ≡ out ++ head
+    → o₂ ≡ o₁ ++ details_text details → o₃ ≡ o₂ ++ details_text places → o₄ ≡ o₃ ++ line
+    → o₅ ≡ o₄ ++ details_text later
+    → o₅ ≡ out ++ (head ++ details_text (details ++ places) ++ line ++ details_text later)
+explanation_told out head details places line later o₁ o₂ o₃ o₄ o₅ h₁ h₂ h₃ h₄ h₅ =
+    rw (h₅, h₄, h₃, h₂, h₁, flat_map-append detail_text details places) (simp append_assoc)
 
 -- ==== the `$p` that a book took last
 
@@ -209,7 +211,6 @@ module _ {profile : Profile} {files : List PlainFile} {told : List Sentence} {s 
       let said = ap (λ (x : PlainRefusal). x.statement) r.refused.refused in
       let counted : length r.before ≡ count = omega (arith, said, is) in
       record {
-        readable = r.readable;
         site = record {
           before = r.before;
           s = s;
@@ -261,8 +262,9 @@ module _ {profile : Profile} {files : List PlainFile} {told : List Sentence} {s 
           → AreUnused (take (length (sentences r.before)) told) (sentence_of s) tokens step unused
           → (label : Option (List ℕ))
           → IsUnknownIn (take (length (sentences r.before)) told) tokens rule label
-          → IsExplainedBut profile source files told s refusal label
-          (head_lines source files place refusal ++ details_text (details ++ places) ++ unused_text unused)
+          → IsExplanation profile source files refusal
+          (head_lines source files place refusal ++ details_text (details ++ places)
+          ++ unused_text unused ++ details_text (stated_later files label r.after))
       explained_there source tokens same placed own rule step one at place stands details facts places
           stand unused by_none label unknown =
           let told_rule : rules.Proof rule ≡ rules.Proof r.refused.rule =
@@ -270,43 +272,31 @@ module _ {profile : Profile} {files : List PlainFile} {told : List Sentence} {s 
           let told_step : step ≡ r.refused.step =
           at ∙ ap (λ (x : PlainRefusal). x.step) r.refused.refused in
           let same_rule : rule ≡ r.refused.rule = cc told_rule in
-          let earlier = prefix_of told (sentences r.before) (sentence_of s) told_parts in (
-            r,
-            record {
-              before = r.before;
-              s = s;
-              after = r.after;
-              ending = r.ending;
-              reads = r.reads;
-              refused = r.refused;
-              details = details;
-              at = place;
-              place = place_of_same profile s same_rule told_step earlier place stands;
-              facts = facts_of files profile (sentence_of s) own same_rule told_step earlier details
-                  facts;
-              places = places;
-              stand = subst
-                  (λ (n : ℕ). AreHypothesisPlaces files r.before s r.refused.rule n places)
-                  told_step
-                  (subst (λ (b : ProofRule). AreHypothesisPlaces files r.before s b step places)
-                  same_rule stand);
-              unused = unused;
-              by_none = unused_of (sentence_of s) same told_step earlier unused by_none;
-              label = label;
-              unknown = unknown_of same same_rule earlier label unknown;
-              said = refl;
-            },
-          )
-
--- the label that is stated further down is told behind it
-pub explained_later : {profile : Profile} {source : Bool} {files : List PlainFile} {told : List Sentence}
-    {s : PlainStatement} {refusal : PlainRefusal} (label : Option (List ℕ)) (text : List ℕ)
-    (b : IsExplainedBut profile source files told s refusal label text) (middle new : List ℕ)
-    → middle ≡ text → new ≡ middle ++ details_text (stated_later files label b.0.after)
-    → IsExplanation profile source files refusal new
-explained_later {profile} {source} {files} {refusal} label text (r, explains) middle new first put =
-    let later : List ℕ = details_text (stated_later files label r.after) in
-    subst (IsExplanation profile source files refusal) (sym (put ∙ ap (λ m. m ++ later) first)) explains
+          let earlier = prefix_of told (sentences r.before) (sentence_of s) told_parts in
+          record {
+            before = r.before;
+            s = s;
+            after = r.after;
+            ending = r.ending;
+            reads = r.reads;
+            refused = r.refused;
+            details = details;
+            at = place;
+            place = place_of_same profile s same_rule told_step earlier place stands;
+            facts = facts_of files profile (sentence_of s) own same_rule told_step earlier details
+                facts;
+            places = places;
+            stand = subst
+                (λ (n : ℕ). AreHypothesisPlaces files r.before s r.refused.rule n places)
+                told_step
+                (subst (λ (b : ProofRule). AreHypothesisPlaces files r.before s b step places)
+                same_rule stand);
+            unused = unused;
+            by_none = unused_of (sentence_of s) same told_step earlier unused by_none;
+            label = label;
+            unknown = unknown_of same same_rule earlier label unknown;
+            said = refl;
+          }
 
 -- ==== the refusals that are kept
 
@@ -352,18 +342,18 @@ noted_more files refusal before s after ending old new reads place (labels, are,
 -- no proof is noted at first
 pub nothing_noted : (profile : Profile) (files : List PlainFile) (first : Reasons) → CanBeRead files
     → first.profile ≡ profile → map plain_file first.files.now ≡ files → first.refusals.items ≡ []
-    → HasShared [] first.shared → first.explanations.items ≡ [] → first.labels.items ≡ []
+    → HasShared [] first.shared → first.explanations.items ≡ []
+    → map plain_file first.outline.files.now ≡ files → IsOutlineOf [] first.outline
     → HasExplained profile files first first [] []
-nothing_noted profile files first readable same_profile same_files none shared unexplained unread =
-    record {
-      readable = readable;
+nothing_noted profile files first readable same_profile same_files none shared unexplained same
+    unread = record {
       same_profile = same_profile;
       same_source = refl;
       same_files = same_files;
       kept = ap (map plain_refusal) none;
       noted = record { each = []; are = tt; has = shared };
       explained = record { proofs = tt; each = rw unexplained tt };
-      labels = inl unread;
+      outline = record { readable = readable; same = same; read = inl unread };
     }
 
 -- one more is explained, or kept without
@@ -416,7 +406,6 @@ noted profile files first old new taken listed told s refusal met notes seen =
     let many : length old.refusals.items ≡ length listed =
     sym (length-map old.refusals.items plain_refusal) ∙ ap length seen.kept in
     record {
-      readable = seen.readable;
       same_profile = notes.same_profile ∙ seen.same_profile;
       same_source = notes.same_source ∙ seen.same_source;
       same_files = ap (λ (fs : Bor (List File)). map plain_file fs.now) notes.same_files
@@ -432,7 +421,7 @@ noted profile files first old new taken listed told s refusal met notes seen =
           at (notes.explains.few (omega (arith, many, short))))
           (λ long. ap (λ (v : Vec (Vec ℕ)). texts_in v.items)
           (notes.explains.many (omega (arith, many, long)))) seen.explained;
-      labels = rw seen.same_files at notes.labels;
+      outline = rw seen.same_files at notes.outline;
     }
 
 -- what isn't at fault changes nothing
@@ -445,14 +434,13 @@ passed_over profile files first now taken listed s (Faulty refusal) sound seen =
     absurd (sound refusal refl)
 passed_over profile files first now taken listed s judged sound seen =
     rw (append-nil listed) (record {
-      readable = seen.readable;
       same_profile = seen.same_profile;
       same_source = seen.same_source;
       same_files = seen.same_files;
       kept = seen.kept;
       noted = seen.noted;
       explained = seen.explained;
-      labels = seen.labels;
+      outline = seen.outline;
     })
 
 -- ==== the whole text

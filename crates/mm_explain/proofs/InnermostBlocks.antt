@@ -1,7 +1,7 @@
 -- Where the innermost open block begins, as statements are read one by one.
 use Rattle.std.proofs.Common.{◌≡◌, ℕ, ◌+◌, List, [], ◌∷◌, ◌++◌, map, take, drop}
-use Rattle.std.proofs.Common.{length, Bool, true, refl, sym, ap, ◌∙◌, arith}
-use Rattle.std.proofs.Common.{reverse, append_assoc, append-nil, Option, Some, None, inl, inr}
+use Rattle.std.proofs.Common.{length, Bool, refl, sym, ap, ◌∙◌, arith}
+use Rattle.std.proofs.Common.{reverse, Option, Some, None, inl, inr}
 use Rattle.std.specs.Prelude.{MatchOption, option_map}
 use Rattle.std.specs.Option.{option_to_list}
 use Rattle.mm_base.specs.Token.{plain_token}

@@ -2,7 +2,7 @@
 -- written explain it. `text_fault.rt`, `last.rt` and `why.rt` rest on it.
 use Rattle.std.proofs.Common.{◌≡◌, ℕ, ◌-◌, List, [], ◌∷◌, ◌++◌, map, filter, length, Bool, true, false}
 use Rattle.std.proofs.Common.{Option, Some, None, if◌then◌else◌, slice_get, inl, inr, refl, sym, ap}
-use Rattle.std.proofs.Common.{Result, Ok, Err, OnOk, IfSome, option_map, ◌⊎◌, Bor}
+use Rattle.std.proofs.Common.{Result, Ok, Err, OnOk, option_map}
 use Rattle.std.proofs.Common.{◌∙◌, subst, arith, length-append, append_assoc, append-nil}
 use Rattle.std.proofs.lemmas.List.{map-append}
 use Rattle.std.proofs.lemmas.List.Elements.{filter-append}
@@ -15,7 +15,7 @@ use Rattle.mm_base.specs.Statement.{PlainStatement}
 use Rattle.mm_base.specs.Blocks.{is_closing}
 use Rattle.mm_text.specs.Files.{PlainFile}
 use Rattle.mm_text.specs.Reading.{PlainFault, Reads}
-use Rattle.mm_base.proofs.Lists.{get_kept, get_pushed}
+use Rattle.mm_base.proofs.Lists.{get_pushed}
 use Rattle.mm_frame.specs.Rules.{AllMeant}
 use Rattle.mm_step.specs.declared.profile.Profile.{Profile}
 use Rattle.mm_rules.specs.Verdict.{PlainRefusal, CanBeRead, sentences, text_refusal}

@@ -1,25 +1,19 @@
--- Labels that are stated further down: that the labels of all statements are listed, which of those
--- behind a statement is found, and for which label that is asked. `forward_reference.rt` and `why.rt` rest on
--- it.
+-- Labels that are stated further down: those of the statements behind one, which of them is found,
+-- and for which label that is asked. `forward_reference.rt` and `why.rt` rest on it.
 use Rattle.std.proofs.Common.{◌≡◌, ℕ, suc, ◌+◌, List, [], ◌∷◌, ◌++◌, map, take, drop, length}
-use Rattle.std.proofs.Common.{◌==◌, ◌<◌, arith, true, false, rules, get_or, slice_get, Vec, vec_len, Bool, Option, Some, None, option_map, inl, inr, refl}
-use Rattle.std.proofs.Common.{sym, ap, subst, ◌∙◌, append_assoc, append-nil}
+use Rattle.std.proofs.Common.{◌<◌, arith, get_or, slice_get, Bool, Option, Some, None, option_map}
+use Rattle.std.proofs.Common.{inl, inr, refl, sym, ap, subst, ◌∙◌}
 use Rattle.std.specs.Prelude.{find}
-use Rattle.std.specs.Global.{Global}
 use Rattle.std.proofs.Math.Seq.{drop-append-add}
 use Rattle.std.proofs.lemmas.Option.{slice_get-get_or}
-use Rattle.std.specs.List.{flat_map}
+use Rattle.std.specs.List.{AllZip, flat_map}
 use Rattle.std.specs.Option.{option_or, option_to_list}
 use Rattle.std.specs.Str.{bytes_eq}
-use Rattle.std.proofs.lemmas.List.{drop-map, map-append}
+use Rattle.std.proofs.lemmas.List.{map-append}
 use Rattle.std.proofs.lemmas.Grind.{flat_map-append}
-use Rattle.mm_base.specs.declared.token.Token.{Token}
 use Rattle.mm_base.specs.Token.{PlainToken, plain_token}
 use Rattle.mm_base.specs.Statement.{PlainStatement}
-use Rattle.mm_text.specs.Files.{PlainFile}
-use Rattle.mm_text.specs.Reading.{PlainFault, Reads}
-use Rattle.mm_base.proofs.Lists.{take_next, split_at}
-use Rattle.mm_text.proofs.Reader.WholeReadings.{each_has_one_reading}
+use Rattle.mm_base.proofs.Lists.{take_next, split_at, zip_drop, zip_mapped, zip_weaker}
 use Rattle.mm_frame.specs.Sentence.{Sentence}
 use Rattle.mm_step.specs.declared.fault.ProofRule.{ProofRule}
 use Rattle.mm_step.specs.declared.fault.ProofRule.TheVariants.{P2, P6, P7}
@@ -32,60 +26,30 @@ use Rattle.mm_step.specs.Profiles.{limit_of}
 use Rattle.mm_places.specs.WholePlaces.{IsWholePlace}
 use Rattle.mm_facts.specs.Explained.{IsTokensFault, judged_tokens}
 use Rattle.mm_explain.specs.Later.{IsUnknownIn, first_stated}
-use Rattle.mm_explain.specs.Mirror.Reasons.{AreKeptLabels, AreLabelsIn}
+use Rattle.mm_explain.specs.declared.outline.Brief.{Brief}
+use Rattle.mm_explain.specs.Mirror.Outlined.{IsBrief}
 use Rattle.mm_explain.proofs.NamesMet.{find-append}
-use Rattle.mm_verdict.proofs.Verdicts.AcceptedStatements.{same_reading}
 
--- ==== the labels that are read
+-- ==== the labels behind a statement
 
--- those of all statements
-pub all_listed : (files : List PlainFile) (labels : List (Option PlainToken))
-    → ((statements : List PlainStatement) (ending : Option PlainFault)
-    → Reads files statements ending → labels ≡ map (λ s. s.label) statements)
-    → AreLabelsIn files labels
-all_listed files labels listed =
-    let one = each_has_one_reading files in record {
-      statements = one.statements;
-      ending = one.ending;
-      reads = one.reads;
-      listed = listed one.statements one.ending one.reads;
-    }
-
--- ==== those behind a statement
-
--- the reading is one, so the labels are those of these statements
-pub labels_of_same : (files : List PlainFile) (labels : List (Option PlainToken))
-    (statements : List PlainStatement) (ending : Option PlainFault) → AreLabelsIn files labels
-    → Reads files statements ending → labels ≡ map (λ s. s.label) statements
-labels_of_same files labels statements ending are reads =
-    are.listed ∙ ap (map (λ (s : PlainStatement). s.label))
-    (same_reading files are.statements statements are.ending ending are.reads reads).0
-
--- those behind a statement
+-- the statements behind one
 pub labels_behind : (before after : List PlainStatement) (s : PlainStatement)
     → drop (length before + 1) (before ++ s ∷ after) ≡ after
 labels_behind before after s = drop-append-add before (s ∷ after) 1
 
--- which label is stated first among those behind a statement with a number
-pub stated_behind : (files : List PlainFile) (labels : List (Option PlainToken)) (label : List ℕ)
-    (number : ℕ) (statements : List PlainStatement) (ending : Option PlainFault)
-    → AreLabelsIn files labels → Reads files statements ending
-    → first_stated label (drop number labels)
-    ≡ first_stated label (map (λ s. s.label) (drop number statements))
-stated_behind files labels label number statements ending are reads =
-    ap (λ (ls : List (Option PlainToken)). first_stated label (drop number ls))
-    (labels_of_same files labels statements ending are reads)
-    ∙ ap (first_stated label) (drop-map (λ (s : PlainStatement). s.label) number statements)
+-- the label of a statement in brief
+abbrev pub label_of : Brief → Option PlainToken
+label_of b = option_map plain_token b.label
 
--- labels that were read aren't read again
-pub read_before : (files : List PlainFile) (labels : Vec (Option Token) Global)
-    → (vec_len labels == 0) ≡ false → AreKeptLabels files labels.items
-    → AreLabelsIn files (map (option_map plain_token) labels.items)
-read_before files labels some (inr are) = are
-read_before files labels some (inl none) =
-    let long : vec_len labels ≡ length labels.items = search rules in
-    let zero : vec_len labels ≡ 0 = long ∙ ap length none in
-    absurd (cc (some, rw zero at some))
+-- the labels behind so many statements
+pub labels_from : (briefs : List Brief) (count : ℕ) (statements : List PlainStatement)
+    → AllZip IsBrief statements briefs
+    → map label_of (drop count briefs) ≡ map (λ s. s.label) (drop count statements)
+labels_from briefs count statements are =
+    let later : List PlainStatement = drop count statements in
+    sym (zip_mapped (λ (s : PlainStatement). s.label) label_of later (drop count briefs)
+    (zip_weaker IsBrief (λ s b. s.label ≡ label_of b) (λ s b is. sym is.label) later
+    (drop count briefs) (zip_drop IsBrief statements briefs count are)))
 
 -- ==== which label is found
 
@@ -97,43 +61,37 @@ first-append label a b =
     ap (find test) (flat_map-append option_to_list a b)
     ∙ find-append test (flat_map option_to_list a) (flat_map option_to_list b)
 
-module _ (label : List ℕ) (labels : List (Option Token)) (i : ℕ) (d : Option Token)
-    (less : i < length labels)
-    (none : first_stated label (map (option_map plain_token) (take i labels)) ≡ None) where
-  abbrev pub x : Option Token
-  x = get_or labels i d
+module _ (label : List ℕ) (briefs : List Brief) (i : ℕ) (d : Brief) (less : i < length briefs)
+    (none : first_stated label (map label_of (take i briefs)) ≡ None) where
+  abbrev pub x : Brief
+  x = get_or briefs i d
 
-  there : slice_get labels i ≡ Some x
-  there = slice_get-get_or labels i d less
+  there : slice_get briefs i ≡ Some x
+  there = slice_get-get_or briefs i d less
 
   -- one more that isn't it
-  pub none_more : first_stated label (option_map plain_token x ∷ []) ≡ None
-      → first_stated label (map (option_map plain_token) (take (i + 1) labels)) ≡ None
+  pub none_more : first_stated label (label_of x ∷ []) ≡ None
+      → first_stated label (map label_of (take (i + 1) briefs)) ≡ None
   none_more other =
       let next : i + 1 ≡ suc i = omega arith in
-      ap (λ (k : ℕ). first_stated label (map (option_map plain_token) (take k labels))) next
-      ∙ ap (λ (ls : List (Option Token)). first_stated label (map (option_map plain_token) ls))
-      (take_next labels i x there)
-      ∙ ap (first_stated label) (map-append (option_map plain_token) (take i labels) (x ∷ []))
-      ∙ first-append label (map (option_map plain_token) (take i labels))
-      (option_map plain_token x ∷ [])
-      ∙ ap (λ o. option_or o (first_stated label (option_map plain_token x ∷ []))) none ∙ other
+      ap (λ (k : ℕ). first_stated label (map label_of (take k briefs))) next
+      ∙ ap (λ (bs : List Brief). first_stated label (map label_of bs)) (take_next briefs i x there)
+      ∙ ap (first_stated label) (map-append label_of (take i briefs) (x ∷ []))
+      ∙ first-append label (map label_of (take i briefs)) (label_of x ∷ [])
+      ∙ ap (λ o. option_or o (first_stated label (label_of x ∷ []))) none ∙ other
 
   -- the first that is it
-  pub first_there : (t : PlainToken)
-      → Some t ≡ first_stated label (option_map plain_token x ∷ [])
-      → Some t ≡ first_stated label (map (option_map plain_token) labels)
+  pub first_there : (t : PlainToken) → Some t ≡ first_stated label (label_of x ∷ [])
+      → Some t ≡ first_stated label (map label_of briefs)
   first_there t own =
-      let rest : List (Option PlainToken) = map (option_map plain_token) (drop (suc i) labels) in
-      let parts : map (option_map plain_token) labels
-      ≡ map (option_map plain_token) (take i labels) ++ (option_map plain_token x ∷ [] ++ rest) =
-      ap (map (option_map plain_token)) (split_at labels i x there)
-      ∙ map-append (option_map plain_token) (take i labels) (x ∷ drop (suc i) labels) in
+      let rest : List (Option PlainToken) = map label_of (drop (suc i) briefs) in
+      let parts : map label_of briefs ≡ map label_of (take i briefs) ++ (label_of x ∷ [] ++ rest) =
+      ap (map label_of) (split_at briefs i x there)
+      ∙ map-append label_of (take i briefs) (x ∷ drop (suc i) briefs) in
       sym (ap (first_stated label) parts
-      ∙ first-append label (map (option_map plain_token) (take i labels))
-      (option_map plain_token x ∷ [] ++ rest)
-      ∙ ap (λ o. option_or o (first_stated label (option_map plain_token x ∷ [] ++ rest))) none
-      ∙ first-append label (option_map plain_token x ∷ []) rest
+      ∙ first-append label (map label_of (take i briefs)) (label_of x ∷ [] ++ rest)
+      ∙ ap (λ o. option_or o (first_stated label (label_of x ∷ [] ++ rest))) none
+      ∙ first-append label (label_of x ∷ []) rest
       ∙ ap (λ o. option_or o (first_stated label rest)) (sym own))
 
 -- ==== for which label it is asked

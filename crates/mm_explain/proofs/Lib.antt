@@ -5,6 +5,7 @@ pub mod SourceLines
 pub mod NearestLabels
 pub mod CutFiles
 pub mod LaterLabels
+pub mod OutlinedStatements
 pub mod SemanticErrors
 pub mod InnermostBlocks
 pub mod NamesMet

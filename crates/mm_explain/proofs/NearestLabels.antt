@@ -1,6 +1,6 @@
 -- The nearest labels of files: those of one more statement are offered.
-use Rattle.std.proofs.Common.{◌≡◌, List, ℕ, [], ◌∷◌, ◌++◌, Option, Some, None, refl, ap, sym, subst}
-use Rattle.std.proofs.Common.{◌∙◌, option_map, append-nil, Result, Ok, Err, OnOk}
+use Rattle.std.proofs.Common.{◌≡◌, List, ℕ, [], ◌∷◌, ◌++◌, Some, None, refl, ap, sym, subst}
+use Rattle.std.proofs.Common.{◌∙◌, option_map, append-nil}
 use Rattle.std.proofs.lemmas.Grind.{flat_map-append}
 use Rattle.std.specs.Option.{option_to_list}
 use Rattle.mm_base.specs.Token.{PlainToken}

@@ -31,7 +31,8 @@ use Rattle.mm_explain.specs.HypothesisPlaces.{AreOwnHypotheses, IsHypothesisFact
 use Rattle.mm_rules.specs.Places.{token_place}
 use Rattle.mm_rules.specs.Places.{place_of, place_text}
 use Rattle.mm_rules.specs.declared.position.Place.{Place}
-use Rattle.mm_explain.specs.Mirror.Standing.{AddsEach, AreEarlier, IsPlaced, firsts_of}
+use Rattle.mm_explain.specs.Mirror.Outlined.{firsts_of}
+use Rattle.mm_explain.specs.Mirror.Standing.{AddsEach, AreEarlier, IsPlaced}
 use Rattle.mm_rules.specs.Verdict.{sentences}
 use Rattle.mm_verdict.proofs.Questions.TheoremsAgain.{said_label}
 use Rattle.mm_rules.proofs.Judgements.JudgedProofs.{prefix_of}
@@ -140,23 +141,26 @@ told_at st before xs stated i d are less =
     }
 
 -- there is a first token
-pub first_within : (st : List Sentence) (before : List PlainStatement) (firsts : List Token)
-    (stated : List Sentence) (i number : ℕ) → map plain_token firsts ≡ firsts_of before
+pub first_within : (st : List Sentence) (before : List PlainStatement) (rest : List PlainToken)
+    (firsts : List Token) (stated : List Sentence) (i number : ℕ)
+    → map plain_token firsts ≡ firsts_of before ++ rest
     → ToldThere st before stated i number → number < length firsts
-first_within st before firsts stated i number are told =
-    let within =
-    slice_get_within (firsts_of before) number told.found.stated.first told.found.first in
+first_within st before rest firsts stated i number are told =
+    let first : PlainToken = told.found.stated.first in
+    let within = slice_get_within (firsts_of before ++ rest) number first
+    (get_kept (firsts_of before) rest number first told.found.first) in
     omega (arith, within, length-map firsts plain_token, ap length are)
 
 -- it is the token with the number
-first_is : (before : List PlainStatement) (firsts : List Token) (number : ℕ) (d : Token)
-    (t : PlainToken) → map plain_token firsts ≡ firsts_of before → number < length firsts
+first_is : (before : List PlainStatement) (rest : List PlainToken) (firsts : List Token)
+    (number : ℕ) (d : Token) (t : PlainToken)
+    → map plain_token firsts ≡ firsts_of before ++ rest → number < length firsts
     → slice_get (firsts_of before) number ≡ Some t → plain_token (get_or firsts number d) ≡ t
-first_is before firsts number d t are less there =
+first_is before rest firsts number d t are less there =
     same_Some (plain_token (get_or firsts number d)) t
     (sym (get_mapped plain_token firsts number (get_or firsts number d)
     (slice_get-get_or firsts number d less))
-    ∙ ap (λ ts. slice_get ts number) are ∙ there)
+    ∙ ap (λ ts. slice_get ts number) are ∙ get_kept (firsts_of before) rest number t there)
 
 -- one fact more
 fact_more : (out text more : List ℕ) (each : List Detail) (d : Detail)
@@ -180,20 +184,21 @@ put_there files lines file position label out more place same at is =
     (at ∙ ap (λ (fs : List PlainFile). place_of fs file position) same)
 
 pub one_told : (files : List PlainFile) (st : List Sentence) (before : List PlainStatement)
-    (firsts : List Token) (stated : List Sentence) (i number : ℕ) (d : Token)
-    (label out text more : List ℕ) → map plain_token firsts ≡ firsts_of before
+    (rest : List PlainToken) (firsts : List Token) (stated : List Sentence) (i number : ℕ)
+    (d : Token) (label out text more : List ℕ)
+    → map plain_token firsts ≡ firsts_of before ++ rest
     → (told : ToldThere st before stated i number)
     → ((s : Sentence) → slice_get (labelled_sentences st) number ≡ Some s → IsLabelled label s)
     → AddsEach files before (take i stated) out text
     → more ≡ text
     ++ detail_text (hypothesis_at (token_place files (plain_token (get_or firsts number d))) label)
     → AddsEach files before (take (i + 1) stated) out more
-one_told files st before firsts stated i number d label out text more are told named
+one_told files st before rest firsts stated i number d label out text more are told named
     (each, facts, so_far) is =
     let f = told.found in
-    let less = first_within st before firsts stated i number are told in
+    let less = first_within st before rest firsts stated i number are told in
     let token : plain_token (get_or firsts number d) ≡ f.stated.first =
-    first_is before firsts number d f.stated.first are less f.first in
+    first_is before rest firsts number d f.stated.first are less f.first in
     let one : Detail =
     hypothesis_at (token_place files (plain_token (get_or firsts number d))) label in
     let labelled : IsLabelled label told.h = named told.h told.numbered in

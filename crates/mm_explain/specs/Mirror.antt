@@ -3,6 +3,7 @@
 -- specs/.
 pub mod Reached
 pub mod Reasons
+pub mod Outlined
 pub mod Standing
 pub mod Offered
 pub mod SemanticErrors

@@ -10,6 +10,7 @@ mod forward_reference;
 mod hypothesis_places;
 mod label_suggestion;
 mod last;
+mod outline;
 mod own_hypotheses;
 mod place_lines;
 pub mod read_to;

@@ -1,137 +1,106 @@
 //! Where a statement with a label stands, and where its block ends.
 
-ghost use Rattle.std.specs.Prelude.{◌≡◌, ◌<◌, ◌++◌, ◌∷◌, [], ℕ, List, length, map, IfOk, OnOk};
+ghost use Rattle.std.specs.Prelude.{◌≡◌, ◌<◌, ◌≤◌, ◌+◌, ◌++◌, ◌∷◌, [], List, map, length};
+ghost use Rattle.std.specs.Prelude.{OnOk, IfSome, MatchOption, Option, Some, option_map, slice_get};
+ghost use Rattle.std.specs.List.{AllZip};
+ghost use Rattle.std.specs.Option.{option_to_list};
+ghost use Rattle.mm_base.specs.Blocks.{openings, closings};
+ghost use Rattle.mm_base.specs.declared.statement.Kind.TheVariants.{Closing};
+ghost use Rattle.mm_base.specs.Statement.{PlainStatement};
+ghost use Rattle.mm_base.specs.Token.{plain_token};
 ghost use Rattle.mm_text.specs.Files.{plain_file};
-ghost use Rattle.mm_base.specs.Statement.{PlainStatement, plain_statement};
-ghost use Rattle.mm_facts.specs.Explained.{Detail, details_text};
-ghost use Rattle.mm_explain.specs.HypothesisPlaces.{AreScopeFacts};
-ghost use Rattle.mm_explain.specs.Mirror.SemanticErrors.{Site};
-ghost use Rattle.mm_explain.specs.Mirror.Standing.{HasScope, IsScope};
-ghost use Rattle.mm_rules.specs.Verdict.{CanBeRead};
+ghost use Rattle.mm_frame.specs.Sentence.{SomeSentence, sentence_of, IsLabelled};
+ghost use Rattle.mm_facts.specs.Explained.{Detail, block_ended_at, details_text};
+ghost use Rattle.mm_explain.specs.HypothesisPlaces.{AreScopeFacts, IsBlockEnd};
+ghost use Rattle.mm_explain.specs.Mirror.Outlined.{IsBrief};
+ghost use Rattle.mm_rules.specs.Places.{token_place};
+ghost use Rattle.mm_rules.specs.Verdict.{sentences};
 
-use mm_base::{File, Kind, Seed, Statement, Token};
+use crate::outline::{Brief, from_index, is_labelled};
+use mm_base::{File, Kind, Token};
 use mm_facts::{push_block_end, push_stated_at};
-use mm_text::{Passing, pass_first};
-use mm_verdict::has_label;
-use std::alloc::{AllocError, Global};
+use std::alloc::AllocError;
 
-/// What is met of the statement with a label, and of the block in which it stands.
-#[derive(Clone, Copy)]
-pub(crate) enum Scope<'a> {
-    /// No statement has the label.
-    Unmet,
-    /// The statement begins at the token, and so many blocks are open that were opened behind it.
-    Open(Token<'a>, usize),
-    /// The statement begins at the first token, and its block ends at the second one.
-    Closed(Token<'a>, Token<'a>),
-}
-
-/// Passes a statement behind the one with the label, whose block is open.
-fn pass_behind<'a>(first: Token<'a>, inner: usize, statement: &Statement<'a>) -> Scope<'a>
-    requires { inner < usize.MAX }
-    ensures { (label : List ℕ) (earlier : List PlainStatement)
-        → IsScope label earlier (Scope.Open first.entry inner)
-        → IsScope label (earlier ++ plain_statement statement.now ∷ []) result }
+/// The index of the first statement that has the label, if one has it.
+fn labelled_at(briefs: &[Brief], label: &[u8]) -> Option<usize>
+    ensures there { (statements : List PlainStatement) → AllZip IsBrief statements briefs.now
+        → MatchOption result (¬ (SomeSentence (sentences statements) (IsLabelled label.now)))
+        (λ index. (h : PlainStatement) × (slice_get statements index ≡ Some h)
+        × IsLabelled label.now (sentence_of h)) }
+    ensures within { IfSome result (λ index. index < length briefs.now) }
 {
-    match statement.kind {
-        Kind::Opening => Scope::Open(first, inner + 1),
-        Kind::Closing => {
-            if inner == 0 {
-                Scope::Closed(first, statement.first)
-            } else {
-                Scope::Open(first, inner - 1)
-            }
+    for (index, brief) in briefs.iter().enumerate() {
+        if is_labelled(brief, label) {
+            return Some(index);
         }
-        _ => Scope::Open(first, inner),
     }
+    None
 }
 
-/// Passes a statement that may have the label, where none before it has.
-fn pass_unmet<'a>(statement: &Statement<'a>, label: &[u8]) -> Scope<'a>
-    ensures { (earlier : List PlainStatement) → IsScope label.now earlier Scope.Unmet
-        → IsScope label.now (earlier ++ plain_statement statement.now ∷ []) result }
+/// How many blocks are open within another one behind a statement of the kind, where so many were;
+/// none, where it closes that other one.
+fn inner_behind(kind: Kind, inner: usize) -> Option<usize>
+    requires { inner < usize.MAX }
+    ensures counted { (s : PlainStatement) → s.kind ≡ kind
+        → MatchOption result ((kind ≡ Closing) × (inner ≡ 0))
+        (λ next. openings (s ∷ []) + inner ≡ closings (s ∷ []) + next) }
+    ensures few { IfSome result (λ next. next ≤ inner + 1) }
 {
-    if has_label(statement, label) {
-        Scope::Open(statement.first, 0)
-    } else {
-        Scope::Unmet
+    match kind {
+        Kind::Opening => Some(inner + 1),
+        Kind::Closing => { if inner == 0 { None } else { Some(inner - 1) } }
+        _ => Some(inner),
     }
 }
 
-/// Passes one statement more.
-fn pass<'a>(met: Scope<'a>, statement: &Statement<'a>, label: &[u8]) -> Scope<'a>
-    requires { (earlier : List PlainStatement) × IsScope label.now earlier met
-        × (length earlier < usize.MAX) }
-    ensures { (earlier : List PlainStatement) → IsScope label.now earlier met.entry
-        → IsScope label.now (earlier ++ plain_statement statement.now ∷ []) result }
+/// Where the block ends in which the statement with an index stands, if it ends among these.
+fn block_end<'a>(briefs: &[Brief<'a>], index: usize) -> Option<Token<'a>>
+    requires { index < length briefs.now }
+    ensures { (statements : List PlainStatement) → AllZip IsBrief statements briefs.now
+        → (end : Option PlainStatement) × IsBlockEnd statements index end
+        × (option_map plain_token result ≡ option_map (λ s. s.first) end) }
 {
-    match met {
-        Scope::Unmet => pass_unmet(statement, label),
-        Scope::Open(first, inner) => pass_behind(first, inner, statement),
-        Scope::Closed(first, end) => Scope::Closed(first, end),
+    let behind = from_index(briefs, index + 1);
+    let mut inner = 0;
+    for brief in behind {
+        match inner_behind(brief.kind, inner) {
+            Some(next) => inner = next,
+            None => return Some(brief.first),
+        }
     }
+    None
 }
 
-/// What is met of the statement with a label.
-#[derive(Drop)]
-pub(crate) struct Seeking<'l, 'a> {
-    label: &'l [u8],
-    met: Scope<'a>,
-}
-
-impl<'l, 'a> Passing<'a> for Seeking<'l, 'a> {
-    ghost has_passed = { HasScope };
-
-    fn pass(&mut self, statement: &Statement<'a>) -> Result<(), AllocError> {
-        self.met = pass(self.met, statement, self.label);
-        Ok(())
-    }
-}
-
-/// What is met of the statement with the label in so many statements of the files.
-fn scope_before<'a>(
-    alloc: Global,
-    seed: Seed,
-    files: &'a [File<'a>],
-    count: usize,
-    label: &[u8],
-) -> Result<Scope<'a>, AllocError>
-    requires readable { CanBeRead (map plain_file files.now) }
-    requires site { Site (map plain_file files.now) count }
-    ensures { IfOk result (λ met. (site : Site (map plain_file files.now) count)
-        → IsScope label.now site.before met) }
+/// Where the block ends, if it does.
+fn push_end(out: &mut Vec<u8>, files: &[File], end: Option<Token>) -> Result<(), AllocError>
+    ensures { OnOk result (out.new.items ≡ out.old.items
+        ++ details_text (map (λ t. block_ended_at (token_place (map plain_file files.now) t))
+        (option_to_list (option_map plain_token end.entry)))) }
 {
-    let mut seeking = Seeking {
-        label,
-        met: Scope::Unmet,
-    };
-    pass_first(alloc, seed, files, count, &mut seeking)?;
-    Ok(seeking.met)
+    match end {
+        Some(token) => push_block_end(out, files, token),
+        None => Ok(()),
+    }
 }
 
-/// Where the statement with the label stands, if it is among so many of the files, and where its
-/// block ends.
-pub(crate) fn push_scope<'a>(
+/// Where the statement with the label stands, if it is one of these, and where its block ends.
+pub(crate) fn push_scope(
     out: &mut Vec<u8>,
-    alloc: Global,
-    seed: Seed,
-    files: &'a [File<'a>],
-    count: usize,
+    files: &[File],
+    briefs: &[Brief],
     label: &[u8],
 ) -> Result<(), AllocError>
-    requires readable { CanBeRead (map plain_file files.now) }
-    requires site { Site (map plain_file files.now) count }
-    ensures { OnOk result ((site : Site (map plain_file files.now) count)
+    ensures { OnOk result
+        ((statements : List PlainStatement) → AllZip IsBrief statements briefs.now
         → (details : List Detail)
-        × AreScopeFacts (map plain_file files.now) site.before label.now details
+        × AreScopeFacts (map plain_file files.now) statements label.now details
         × (out.new.items ≡ out.old.items ++ details_text details)) }
 {
-    match scope_before(alloc, seed, files, count, label)? {
-        Scope::Unmet => Ok(()),
-        Scope::Open(first, _) => push_stated_at(out, files, first),
-        Scope::Closed(first, end) => {
-            push_stated_at(out, files, first)?;
-            push_block_end(out, files, end)
+    match labelled_at(briefs, label) {
+        Some(index) => {
+            push_stated_at(out, files, briefs[index].first)?;
+            push_end(out, files, block_end(briefs, index))
         }
+        None => Ok(()),
     }
 }

@@ -2,11 +2,9 @@
 
 ghost use Rattle.std.specs.Prelude.{◌≡◌, ◌<◌, ◌++◌, List, ℕ, [], ◌∷◌, map, length, true};
 ghost use Rattle.std.specs.List.{flat_map};
-ghost use Rattle.std.specs.Prelude.{OnOk, IfOk, IfErr, Option, Some, drop, take, option_map};
+ghost use Rattle.std.specs.Prelude.{OnOk, IfOk, IfErr, take, option_map};
 ghost use Rattle.mm_base.specs.declared.statement.Kind.TheVariants.{Provable};
-ghost use Rattle.mm_base.specs.Statement.{PlainStatement, plain_statement, HasForm};
-ghost use Rattle.mm_text.specs.Reading.{PlainFault, Reads};
-ghost use Rattle.mm_base.specs.Token.{plain_token};
+ghost use Rattle.mm_base.specs.Statement.{plain_statement, HasForm};
 ghost use Rattle.mm_text.specs.Files.{plain_file};
 ghost use Rattle.mm_frame.specs.Sentence.{Sentence, sentence_of};
 ghost use Rattle.mm_step.specs.declared.profile.Profile.{Profile};
@@ -22,23 +20,23 @@ ghost use Rattle.mm_explain.specs.Why.{TellsProofs, most_explained as most_expla
 ghost use Rattle.mm_explain.specs.Why.{more_text, count_text};
 ghost use Rattle.mm_explain.specs.Why.{listing_words as listing_words_of};
 ghost use Rattle.mm_verdict.specs.Reply.{refusal_status};
-ghost use Rattle.mm_facts.specs.Explained.{details_text};
-ghost use Rattle.mm_explain.specs.Later.{IsUnknownIn, stated_later};
+ghost use Rattle.mm_explain.specs.Later.{IsUnknownIn};
 ghost use Rattle.mm_facts.specs.Mirror.Explaining.{IsCauseOf};
 ghost use Rattle.mm_explain.specs.Mirror.Last.{EndsRun};
-ghost use Rattle.mm_explain.specs.Mirror.Reasons.{AreKeptLabels, AreLabelsIn, IsExplainedBut};
+ghost use Rattle.mm_explain.specs.Mirror.Outlined.{IsKeptOutline};
 ghost use Rattle.mm_explain.specs.Mirror.Reasons.{IsRefusedLast, Explains, Notes, TellsWhy};
 ghost use Rattle.mm_explain.specs.Mirror.Reasons.{AreExplained, AreNoted, TellsLast, texts_in};
 ghost use Rattle.mm_rules.specs.declared.fault.Refusal.{Refusal};
 ghost use Rattle.mm_explain.specs.declared.why.Unaccepted.TheVariants.{Memory};
 ghost use Rattle.mm_rules.specs.declared.rule.Rule.TheVariants.{Proof};
 
-use crate::forward_reference::{push_later, read_labels};
+use crate::forward_reference::push_later;
 use crate::hypothesis_places::push_hypothesis_places;
 use crate::last::last_facts;
+use crate::outline::Outline;
 use crate::source::push_source;
 use crate::unused::push_unused;
-use mm_base::{File, Seed, Statement, Token};
+use mm_base::{File, Seed, Statement};
 use mm_facts::{Cause, cause_of, fault_place, push_cause};
 use mm_frame::{Book, Found, LabelId};
 use mm_groups::{Shared, shared_line};
@@ -266,27 +264,28 @@ struct Manner {
     source: bool,
 }
 
-/// Explains the refusal of the `$p` that the book took last, for the fault of its proof, but for
-/// where a label that no earlier statement has is stated further down: that label is answered.
-fn push_explanation<'a>(
+/// Explains the refusal of the `$p` that the book took last, for the fault of its proof.
+fn push_explanation(
     out: &mut Vec<u8>,
     alloc: Global,
     manner: Manner,
-    files: &[File],
+    outline: &mut Outline,
     book: &Book,
-    statement: &Statement<'a>,
+    statement: &Statement,
     refusal: &Refusal,
-) -> Result<Option<&'a [u8]>, AllocError>
+) -> Result<(), AllocError>
     requires formed { HasForm (plain_statement statement.now) }
-    requires refused { IsRefusedLast manner.profile (map plain_file files.now) book.now.statements
-        (plain_statement statement.now) (plain_refusal refusal.now) }
-    ensures { IfOk result (λ label. (text : List ℕ)
-        × IsExplainedBut manner.profile manner.source (map plain_file files.now)
-        book.now.statements
-        (plain_statement statement.now) (plain_refusal refusal.now)
-        (option_map (λ l. l.now) label) text
+    requires refused { IsRefusedLast manner.profile (map plain_file outline.old.files.now)
+        book.now.statements (plain_statement statement.now) (plain_refusal refusal.now) }
+    requires outline { IsKeptOutline (map plain_file outline.old.files.now) outline.old }
+    ensures told { OnOk result ((text : List ℕ)
+        × IsExplanation manner.profile manner.source (map plain_file outline.old.files.now)
+        (plain_refusal refusal.now) text
         × (out.new.items ≡ out.old.items ++ text)) }
+    ensures kept { OnOk result
+        (IsKeptOutline (map plain_file outline.old.files.now) outline.new) }
 {
+    let files = outline.files;
     let fault = fault_in(refusal);
     let id = last_number(book, statement);
     let cause = cause_of(
@@ -298,18 +297,14 @@ fn push_explanation<'a>(
         &statement.proof,
         fault,
     )?;
-    push_head_lines(
-        out,
-        files,
-        fault_place(statement, &cause),
-        refusal,
-        manner.source,
-    )?;
+    let at = fault_place(statement, &cause);
+    push_head_lines(out, files, at, refusal, manner.source)?;
     push_cause(out, alloc, manner.profile, book, id, &cause, fault.0)?;
     let place = (id, refusal.statement - 1);
-    push_hypothesis_places(out, alloc, files, book, place, &cause, fault.0)?;
+    push_hypothesis_places(out, outline, book, place, &cause, fault.0)?;
     push_unused(out, alloc, book, &statement.proof, &cause)?;
-    Ok(unknown_label(&cause, fault.0))
+    let unknown = unknown_label(&cause, fault.0);
+    push_later(out, outline, unknown, refusal.statement)
 }
 
 /// What explains the refusal for the fault that ended the run.
@@ -367,8 +362,8 @@ struct Reasons<'a> {
     /// What all of them share.
     shared: Shared<'a>,
     explanations: Vec<Vec<u8>>,
-    /// The labels of all statements of the files, once they were asked for.
-    labels: Vec<Option<Token<'a>>>,
+    /// The statements of the files, once an explanation asked for them.
+    outline: Outline<'a>,
 }
 
 impl<'a> Reasons<'a> {
@@ -378,102 +373,13 @@ impl<'a> Reasons<'a> {
             ≡ self.old.refusals.items ++ refusal.entry ∷ []) }
         ensures shared { self.new.shared ≡ self.old.shared }
         ensures explanations { self.new.explanations ≡ self.old.explanations }
-        ensures labels { self.new.labels ≡ self.old.labels }
+        ensures outline { self.new.outline ≡ self.old.outline }
         ensures profile { self.new.profile ≡ self.old.profile }
         ensures source { self.new.source ≡ self.old.source }
         ensures files { self.new.files ≡ self.old.files }
     {
         self.refusals.push(refusal)?;
         Ok(())
-    }
-
-    /// Reads the labels of all statements, unless they were read.
-    fn read_labels(&mut self) -> Result<(), AllocError>
-        requires readable { CanBeRead (map plain_file self.old.files.now) }
-        requires labels { AreKeptLabels (map plain_file self.old.files.now)
-            self.old.labels.items }
-        ensures labels { OnOk result (AreLabelsIn (map plain_file self.old.files.now)
-            (map (option_map plain_token) self.new.labels.items)) }
-        ensures kept { self.new.refusals ≡ self.old.refusals }
-        ensures shared { self.new.shared ≡ self.old.shared }
-        ensures explanations { self.new.explanations ≡ self.old.explanations }
-        ensures profile { self.new.profile ≡ self.old.profile }
-        ensures source { self.new.source ≡ self.old.source }
-        ensures files { self.new.files ≡ self.old.files }
-    {
-        if self.labels.is_empty() {
-            self.labels = read_labels(self.alloc, self.seed, self.files)?;
-        }
-        Ok(())
-    }
-
-    /// Tells where a label is stated further down than the statement with a number, from 1 on.
-    fn tell_later(
-        &mut self,
-        out: &mut Vec<u8>,
-        label: &[u8],
-        number: usize,
-    ) -> Result<(), AllocError>
-        requires readable { CanBeRead (map plain_file self.old.files.now) }
-        requires labels { AreKeptLabels (map plain_file self.old.files.now)
-            self.old.labels.items }
-        ensures told { OnOk result ((statements : List PlainStatement)
-            (ending : Option PlainFault)
-            → Reads (map plain_file self.old.files.now) statements ending
-            → out.new.items ≡ out.old.items
-            ++ details_text (stated_later (map plain_file self.old.files.now) (Some label.now)
-            (drop number statements))) }
-        ensures labels { OnOk result (AreKeptLabels (map plain_file self.old.files.now)
-            self.new.labels.items) }
-        ensures kept { self.new.refusals ≡ self.old.refusals }
-        ensures shared { self.new.shared ≡ self.old.shared }
-        ensures explanations { self.new.explanations ≡ self.old.explanations }
-        ensures profile { self.new.profile ≡ self.old.profile }
-        ensures source { self.new.source ≡ self.old.source }
-        ensures files { self.new.files ≡ self.old.files }
-    {
-        self.read_labels()?;
-        push_later(out, self.files, &self.labels, number, label)
-    }
-
-    /// What explains the refusal of the `$p` that the book took last.
-    fn explanation(
-        &mut self,
-        book: &Book<'a>,
-        statement: &Statement<'a>,
-        refusal: &Refusal<'a>,
-    ) -> Result<Vec<u8>, AllocError>
-        requires formed { HasForm (plain_statement statement.now) }
-        requires refused { IsRefusedLast self.old.profile (map plain_file self.old.files.now)
-            book.now.statements (plain_statement statement.now) (plain_refusal refusal.now) }
-        requires labels { AreKeptLabels (map plain_file self.old.files.now)
-            self.old.labels.items }
-        ensures explained { IfOk result (λ text. IsExplanation self.old.profile self.old.source
-            (map plain_file self.old.files.now) (plain_refusal refusal.now) text.items) }
-        ensures labels { OnOk result (AreKeptLabels (map plain_file self.old.files.now)
-            self.new.labels.items) }
-        ensures kept { self.new.refusals ≡ self.old.refusals }
-        ensures shared { self.new.shared ≡ self.old.shared }
-        ensures explanations { self.new.explanations ≡ self.old.explanations }
-        ensures profile { self.new.profile ≡ self.old.profile }
-        ensures source { self.new.source ≡ self.old.source }
-        ensures files { self.new.files ≡ self.old.files }
-    {
-        let mut text = Vec::new(self.alloc);
-        let manner = Manner {
-            profile: self.profile,
-            source: self.source,
-        };
-        let unknown = push_explanation(
-            &mut text, self.alloc, manner, self.files, book, statement, refusal,
-        )?;
-        match unknown {
-            Some(label) => {
-                self.tell_later(&mut text, label, refusal.statement)?;
-                Ok(text)
-            }
-            None => Ok(text),
-        }
     }
 
     /// Explains the refusal of the `$p` that the book took last, unless enough are.
@@ -486,12 +392,11 @@ impl<'a> Reasons<'a> {
         requires formed { HasForm (plain_statement statement.now) }
         requires refused { IsRefusedLast self.old.profile (map plain_file self.old.files.now)
             book.now.statements (plain_statement statement.now) (plain_refusal refusal.now) }
-        requires labels { AreKeptLabels (map plain_file self.old.files.now)
-            self.old.labels.items }
+        requires outline { IsKeptOutline (map plain_file self.old.files.now) self.old.outline }
         ensures explains { OnOk result
             (Explains self.old (plain_refusal refusal.now) self.new) }
-        ensures labels { OnOk result (AreKeptLabels (map plain_file self.old.files.now)
-            self.new.labels.items) }
+        ensures outline { OnOk result
+            (IsKeptOutline (map plain_file self.old.files.now) self.new.outline) }
         ensures kept { self.new.refusals ≡ self.old.refusals }
         ensures shared { self.new.shared ≡ self.old.shared }
         ensures profile { self.new.profile ≡ self.old.profile }
@@ -501,7 +406,20 @@ impl<'a> Reasons<'a> {
         if self.refusals.len() >= MOST_EXPLAINED {
             return Ok(());
         }
-        let text = self.explanation(book, statement, refusal)?;
+        let mut text = Vec::new(self.alloc);
+        let manner = Manner {
+            profile: self.profile,
+            source: self.source,
+        };
+        push_explanation(
+            &mut text,
+            self.alloc,
+            manner,
+            &mut self.outline,
+            book,
+            statement,
+            refusal,
+        )?;
         self.explanations.push(text)?;
         Ok(())
     }
@@ -517,8 +435,7 @@ impl<'a> Reasons<'a> {
         requires formed { HasForm (plain_statement statement.now) }
         requires refused { IsRefusedLast self.old.profile (map plain_file self.old.files.now)
             book.now.statements (plain_statement statement.now) (plain_refusal refusal) }
-        requires labels { AreKeptLabels (map plain_file self.old.files.now)
-            self.old.labels.items }
+        requires outline { IsKeptOutline (map plain_file self.old.files.now) self.old.outline }
         ensures { OnOk result (Notes self.old refusal.entry self.new) }
     {
         self.explain(book, statement, &refusal)?;
@@ -638,7 +555,7 @@ pub fn explained<'a>(
         refusals: Vec::new(alloc),
         shared: Shared::new(alloc, seed),
         explanations: Vec::new(alloc),
-        labels: Vec::new(alloc),
+        outline: Outline::new(alloc, seed, files),
     };
     match judge_files(alloc, seed, profile, files, &mut reasons) {
         Ok(progress) => {

@@ -1,6 +1,6 @@
 -- Labels that are near to another: each label is offered that the proof may name.
 use Rattle.std.proofs.Common.{◌≡◌, ◌≢◌, ℕ, suc, ◌+◌, ◌≤◌, ◌<◌, List, [], ◌∷◌, ◌++◌, length, take, slice_get}
-use Rattle.std.proofs.Common.{arith, inl, inr, ◌⊎◌, ◌∙◌, ◌↔◌, map, Bool, true, false, Option, Some}
+use Rattle.std.proofs.Common.{arith, inl, inr, ◌⊎◌, ◌∙◌, ◌↔◌, Bool, true, Some}
 use Rattle.std.proofs.Common.{refl, ap, sym, subst, option_map, unwrap_or}
 use Rattle.std.proofs.lemmas.List.{take-take, take_all, length-map}
 use Rattle.std.proofs.lemmas.Option.{slice_get-map}

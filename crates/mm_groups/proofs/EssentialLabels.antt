@@ -1,26 +1,24 @@
 -- The labels of the essential hypotheses of the `$p` that was taken last: those of its frame without a
 -- typing. The contracts of `essentials.rt` rest on it.
-use Rattle.std.proofs.Common.{◌≡◌, ℕ, suc, ◌+◌, ◌<◌, ◌≤◌, List, [], ◌∷◌, ◌++◌, map, take, length}
+use Rattle.std.proofs.Common.{◌≡◌, ℕ, suc, ◌+◌, ◌<◌, List, [], ◌∷◌, ◌++◌, map, take, length}
 use Rattle.std.proofs.Common.{filter, slice_get, get_or}
-use Rattle.std.proofs.Common.{Bool, true, false, cond, Option, Some, None, is_some}
+use Rattle.std.proofs.Common.{Bool, true, false, cond, Option, Some, is_some}
 use Rattle.std.proofs.Common.{sym, ap, subst, ◌∙◌, append-nil, arith}
 use denote.Ref.{Bor}
-use Rattle.std.proofs.lemmas.List.{map-append, length-map, take_all}
+use Rattle.std.proofs.lemmas.List.{map-append}
 use Rattle.std.proofs.lemmas.List.Elements.{filter-append}
 use Rattle.std.proofs.lemmas.Option.{slice_get-get_or}
-use Rattle.mm_base.proofs.Lists.{one_there, same_length, take_next}
+use Rattle.mm_base.proofs.Lists.{one_there, take_next}
 use Rattle.mm_frame.specs.declared.hypothesis.Hypothesis.{Hypothesis}
-use Rattle.mm_frame.specs.declared.number.Sym.{Sym}
 use Rattle.mm_frame.specs.Frame.{AreMandatory}
-use Rattle.mm_frame.specs.FrameIndex.{FrameIndex, AreHypotheses, HasTyping, HaveTypings, IsTypingOf}
+use Rattle.mm_frame.specs.FrameIndex.{FrameIndex, AreHypotheses, HaveTypings}
 use Rattle.mm_frame.specs.Numbers.{IsNumbered, labelled_sentences}
-use Rattle.mm_frame.specs.Sentence.{Sentence, IsAssertion, IsLabelled}
+use Rattle.mm_frame.specs.Sentence.{Sentence, IsAssertion, IsLabelled, is_essential}
+use Rattle.mm_frame.proofs.Frames.EssentialHypotheses.{hypothesis_there, essential_kind}
 use Rattle.mm_frame.proofs.Names.LabelNumbers.{numbered_unique}
-use Rattle.mm_frame.proofs.Names.NameNumbers.{get_alike, get_mapped}
 use Rattle.mm_step.specs.Steps.{IsProofNumber}
 use Rattle.mm_rules.proofs.Judgements.JudgedProofs.{prefix_of}
 use Rattle.mm_code.specs.Layout.{texts}
-use Rattle.mm_groups.specs.Shared.{is_essential}
 
 -- ---- its frame
 
@@ -54,38 +52,6 @@ framed st before s id f ids whole number is (t, other, asserts) are_hypotheses =
     }
 
 -- ---- which are essential
-
--- what stands behind a hypothesis at an index
-hypothesis_there : (all : List Sentence) (hypotheses : List Hypothesis) (stated : List Sentence)
-    (i : ℕ) (d : Hypothesis) → map (slice_get all) (map (λ h. h.id.0) hypotheses) ≡ map Some stated
-    → i < length hypotheses
-    → (s : Sentence) × (slice_get stated i ≡ Some s) × (slice_get all (get_or hypotheses i d).id.0
-    ≡ Some s)
-hypothesis_there all hypotheses stated i d same less =
-    let number : Hypothesis → ℕ = λ h. h.id.0 in
-    let at = get_mapped number hypotheses i (get_or hypotheses i d)
-    (slice_get-get_or hypotheses i d less) in
-    let (s, there, is) = get_alike (slice_get all) (λ (t : Sentence). Some t)
-    (map number hypotheses) stated i
-    (number (get_or hypotheses i d)) same at in
-    (s, there, sym is)
-
--- by whether it has a typing
-typed_kind : (st : List Sentence) (typing : Option (Sym × Sym)) (s : Sentence)
-    → IsTypingOf st typing s
-    → (is_some typing ≡ false → is_essential s.kind ≡ true)
-    × (is_some typing ≡ true → is_essential s.kind ≡ false)
-typed_kind st None s is = ((λ e. ap is_essential is), (λ e. absurd cc))
-typed_kind st (Some typing) s (code, x, types, at_code, at_x) =
-    ((λ e. absurd cc), (λ e. ap is_essential types.0))
-
-essential_kind : (st : List Sentence) (h : Hypothesis) (s : Sentence) → HasTyping st h
-    → slice_get (labelled_sentences st) h.id.0 ≡ Some s
-    → (is_some h.typing ≡ false → is_essential s.kind ≡ true)
-    × (is_some h.typing ≡ true → is_essential s.kind ≡ false)
-essential_kind st h s (t, there, typing) at =
-    let same : t ≡ s = one_there (labelled_sentences st) h.id.0 t s there at in
-    typed_kind st h.typing s (subst (IsTypingOf st h.typing) same typing)
 
 -- the labels of those that are
 abbrev pub stated_labels : List Sentence → List (Option (List ℕ))
@@ -141,18 +107,3 @@ module _ (st : List Sentence) (hypotheses : List Hypothesis) (stated : List Sent
       ∙ ap (λ (os : List (Option (List ℕ))). os ++ Some own.now ∷ []) told
       ∙ ap (λ (o : Option (List ℕ)). stated_labels (take i stated) ++ o ∷ []) (sym (named s there))
       ∙ sym (next_labels stated i s (s ∷ []) at (ap (λ (b : Bool). cond b (s ∷ []) []) kind))
-
--- all hypotheses
-pub all_taken : (all : List Sentence) (hypotheses : List Hypothesis) (stated : List Sentence)
-    (i : ℕ)
-    → map (slice_get all) (map (λ h. h.id.0) hypotheses) ≡ map Some stated
-    → length hypotheses ≤ i → take i stated ≡ stated
-all_taken all hypotheses stated i are end =
-    take_all i stated
-    (omega (
-      arith,
-      same_length (slice_get all) (λ (s : Sentence). Some s)
-          (map (λ (h : Hypothesis). h.id.0) hypotheses) stated are,
-      length-map hypotheses (λ (h : Hypothesis). h.id.0),
-      end,
-    ))

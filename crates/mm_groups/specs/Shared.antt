@@ -3,18 +3,16 @@
 -- project's own.
 use Rattle.std.specs.Prelude.{◌≡◌, ◌⊎◌, ℕ, ◌+◌, ◌-◌, ◌*◌, ◌<◌, ◌≤◌, if◌then◌else◌, List, [], ◌∷◌, ◌++◌}
 use Rattle.std.specs.Prelude.{map, filter, length, slice_get, codes, decimal}
-use Rattle.std.specs.Prelude.{Bool, true, false, not, Option, Some, None, option_map}
+use Rattle.std.specs.Prelude.{Bool, false, not, Option, Some, None, option_map}
 use Rattle.std.specs.List.{AllZip, flat_map, list_any, list_all, take_while}
 use Rattle.std.specs.Option.{option_to_list}
 use Rattle.std.specs.Str.{bytes_eq}
-use Rattle.mm_base.specs.declared.statement.Kind.{Kind}
-use Rattle.mm_base.specs.declared.statement.Kind.TheVariants.{Essential}
 use Rattle.mm_base.specs.Spelling.{spells}
 use Rattle.mm_base.specs.Statement.{PlainStatement, is_provable}
 use Rattle.mm_text.specs.Files.{PlainFile}
 use Rattle.mm_text.specs.Reading.{PlainFault, Reads}
 use Rattle.mm_frame.specs.Frame.{AreMandatory}
-use Rattle.mm_frame.specs.Sentence.{Sentence, sentence_of}
+use Rattle.mm_frame.specs.Sentence.{Sentence, sentence_of, is_essential}
 use Rattle.mm_proof.specs.Tokens.{opening_token, closing_token, is_unknown}
 use Rattle.mm_rules.specs.Verdict.{PlainRefusal, sentences, proof_of}
 
@@ -43,10 +41,6 @@ labels_in s =
     then (option_to_list (option_map (λ t. t.text) s.label)
     ++ filter is_known (named_labels (proof_of s)))
     else []
-
-abbrev pub is_essential : Kind → Bool
-is_essential Essential = true
-is_essential kind = false
 
 -- These are the labels of the statement's essential hypotheses, in database order.
 pub record AreEssentials (before : List Sentence) (s : Sentence)

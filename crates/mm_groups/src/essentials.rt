@@ -5,9 +5,9 @@ ghost use Rattle.std.specs.Prelude.{slice_get};
 ghost use Rattle.mm_code.specs.Layout.{texts};
 ghost use Rattle.mm_frame.specs.FrameIndex.{HaveTypings};
 ghost use Rattle.mm_frame.specs.Numbers.{labelled_sentences};
-ghost use Rattle.mm_frame.specs.Sentence.{Sentence};
+ghost use Rattle.mm_frame.specs.Sentence.{Sentence, is_essential};
 ghost use Rattle.mm_step.specs.Steps.{IsProofNumber};
-ghost use Rattle.mm_groups.specs.Shared.{AreEssentials, is_essential};
+ghost use Rattle.mm_groups.specs.Shared.{AreEssentials};
 
 use mm_frame::{Book, Hypothesis, LabelId};
 use std::alloc::{AllocError, Global};

@@ -1,7 +1,7 @@
 -- What the prover says of tokens, and how many bytes these have after a change.
 use Rattle.std.proofs.Common.{◌≡◌, ◌∙◌, ℕ, List, length, take, drop, Bool, true, false, refl, ap, sym}
 use Rattle.std.proofs.Common.{Option, Some, None, arith, sum_by, IsTrue, MatchOption, ◌↔◌, is_some, not}
-use Rattle.std.proofs.Common.{◌++◌, inl, inr}
+use Rattle.std.proofs.Common.{◌++◌}
 use Rattle.std.proofs.lemmas.List.{drop-drop}
 use Rattle.std.proofs.lemmas.List.Sums.{sum_by-append, sum_by-take-drop}
 use Rattle.mm_frame.specs.Rules.{AllMeant}

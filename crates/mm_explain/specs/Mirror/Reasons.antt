@@ -2,10 +2,8 @@
 -- by private contracts alone.
 use Rattle.std.specs.Prelude.{◌≡◌, ℕ, ◌<◌, ◌≤◌, List, [], ◌∷◌, ◌++◌, map, take, length}
 use Rattle.std.specs.Global.{Vec}
-use Rattle.std.specs.Prelude.{Bool, true, Option, option_map, ◌⊎◌}
+use Rattle.std.specs.Prelude.{Bool, true, Option}
 use Rattle.std.specs.List.{AllZip, AllByRecursion}
-use Rattle.mm_base.specs.declared.token.Token.{Token}
-use Rattle.mm_base.specs.Token.{PlainToken, plain_token}
 use Rattle.mm_base.specs.Statement.{PlainStatement}
 use Rattle.mm_text.specs.Files.{PlainFile, plain_file}
 use Rattle.mm_text.specs.Reading.{PlainFault, Reads}
@@ -21,8 +19,7 @@ use Rattle.mm_rules.specs.Faults.{IsProofRefusal}
 use Rattle.mm_rules.specs.Answer.{plain_refusal}
 use Rattle.mm_verdict.specs.Reply.{refusal_status}
 use Rattle.mm_rules.specs.Status.{number_of}
-use Rattle.mm_facts.specs.Explained.{details_text}
-use Rattle.mm_explain.specs.Later.{stated_later}
+use Rattle.mm_explain.specs.Mirror.Outlined.{IsKeptOutline}
 use Rattle.mm_explain.specs.Why.{IsExplanation, IsLastExplanation, TellsFaults, TellsProofs}
 use Rattle.mm_groups.specs.Shared.{AreLabelsAt, Labels}
 use Rattle.mm_groups.specs.Mirror.Kept.{HasShared}
@@ -39,28 +36,6 @@ pub record IsRefusedLast (profile : Profile) (files : List PlainFile) (told : Li
   pub reads : Reads files (before ++ s ∷ after) ending
   pub same : told ≡ sentences (before ++ s ∷ [])
   pub refused : IsProofRefusal profile files before s refusal
-
--- The text explains the refusal of the statement that was told last, but for where this label, at
--- which its proof breaks P2, is stated further down.
-abbrev pub IsExplainedBut : Profile → (source : Bool) → List PlainFile → List Sentence
-    → PlainStatement → PlainRefusal → (label : Option (List ℕ)) → (text : List ℕ) → Type 0
-IsExplainedBut profile source files told s refusal label text =
-    (r : IsRefusedLast profile files told s refusal)
-    × IsExplanation profile source files refusal
-    (text ++ details_text (stated_later files label r.after))
-
--- these are the labels of all statements of the files
-pub record AreLabelsIn (files : List PlainFile)
-    (labels : List (Option PlainToken)) : Type 0 where
-  pub statements : List PlainStatement
-  pub ending : Option PlainFault
-  pub reads : Reads files statements ending
-  pub listed : labels ≡ map (λ s. s.label) statements
-
--- these are they, or they weren't read yet
-abbrev pub AreKeptLabels : List PlainFile → List (Option Token) → Type 0
-AreKeptLabels files labels =
-    (labels ≡ []) ⊎ AreLabelsIn files (map (option_map plain_token) labels)
 
 -- how many explanations are kept: only in the end is it known what all refusals share
 abbrev pub most_kept : ℕ
@@ -86,14 +61,13 @@ texts_in explanations = map (λ t. t.items) explanations
 -- the refusals listed are those kept, what they share is kept, and they are explained
 pub record HasExplained (profile : Profile) (files : List PlainFile) (first now : Reasons)
     (taken : List PlainStatement) (listed : List PlainRefusal) : Type 0 where
-  pub readable : CanBeRead files
   pub same_profile : now.profile ≡ profile
   pub same_source : now.source ≡ first.source
   pub same_files : map plain_file now.files.now ≡ files
   pub kept : map plain_refusal now.refusals.items ≡ listed
   pub noted : AreNoted files listed now.shared
   pub explained : AreExplained profile first.source files listed (texts_in now.explanations.items)
-  pub labels : AreKeptLabels files now.labels.items
+  pub outline : IsKeptOutline files now.outline
 
 -- The refusal is explained, with the others, unless enough are.
 pub record Explains (old : Reasons) (refusal : PlainRefusal) (new : Reasons) : Type 0 where
@@ -114,7 +88,7 @@ pub record Notes (old : Reasons) (refusal : Refusal) (new : Reasons) : Type 0 wh
       (listed : List PlainRefusal) → AreNoted (map plain_file old.files.now) listed old.shared
       → AreNoted (map plain_file old.files.now) (listed ++ plain_refusal refusal ∷ []) new.shared
   pub explains : Explains old (plain_refusal refusal) new
-  pub labels : AreKeptLabels (map plain_file old.files.now) new.labels.items
+  pub outline : IsKeptOutline (map plain_file old.files.now) new.outline
 
 -- the last fault is explained, and then those of proofs are told
 pub record TellsLast (profile : Profile) (source : Bool) (files : List PlainFile)

@@ -7,12 +7,12 @@ use Rattle.mm_explain.proofs.forward_reference.first_stated.Goals as goal
 
 pub returns-in-Some : goal.returns-in-Some
 returns-in-Some c =
-    first_there c.args.label.now c.args.labels.now c.loop-stated.stated-index _
-    c.loop-stated-test.true c.loop-stated.invariant (plain_token c.in-Some.token)
+    first_there c.args.label.now c.args.briefs.now c.loop-brief.brief-index _
+    c.loop-brief-test.true c.loop-brief.invariant (plain_token c.in-Some.token)
     (ap (option_map plain_token) (sym c.in-Some.is) ∙ c.with_text.ensures)
 
-pub loop-stated-preserved : goal.loop-stated-preserved
-loop-stated-preserved c =
-    none_more c.args.label.now c.args.labels.now c.loop-stated.stated-index _
-    c.loop-stated-test.true c.loop-stated.invariant
+pub loop-brief-preserved : goal.loop-brief-preserved
+loop-brief-preserved c =
+    none_more c.args.label.now c.args.briefs.now c.loop-brief.brief-index _
+    c.loop-brief-test.true c.loop-brief.invariant
     (sym c.with_text.ensures ∙ ap (option_map plain_token) c.in_default.is)

@@ -4,6 +4,7 @@ use Rattle.mm_base.specs.Token.{plain_token}
 use Rattle.mm_explain.specs.Later.{first_stated}
 use Rattle.mm_explain.proofs.forward_reference.first_stated.Given as goal
 
-abbrev pub invariant-loop-stated : goal.invariant-loop-stated
-invariant-loop-stated l =
-    first_stated l.label (map (option_map plain_token) (take l.stated-index l.labels)) ≡ None
+abbrev pub invariant-loop-brief : goal.invariant-loop-brief
+invariant-loop-brief l =
+    first_stated l.label (map (λ b. option_map plain_token b.label) (take l.brief-index l.briefs))
+    ≡ None

@@ -9,8 +9,11 @@ use Rattle.mm_explain.proofs.OwnHypotheses.{placed_prefix}
 use Rattle.mm_facts.proofs.TokenHalts.{token_caused, moves_caused}
 use Rattle.mm_explain.proofs.hypothesis_places.push_hypothesis_places.Goals as goal
 
-pub returns-in-Token : goal.returns-in-Token
-returns-in-Token c =
+pub push_at_stop-requires-clause-placed : goal.push_at_stop-requires-clause-placed
+push_at_stop-requires-clause-placed c = (c.args.place.1, c.requires.placed)
+
+pub returns-in-Token-clause-told : goal.returns-in-Token-clause-told
+returns-in-Token-clause-told c =
     on_ok_weaker c.push_at_token.result
     (λ told p profile step r.
     let caused = token_caused c.in-Token.is r in
@@ -30,12 +33,12 @@ returns-in-Token c =
       ),
       put,
     ))
-    c.push_at_token.ensures
+    c.push_at_token.ensures.told
 
-pub returns-in-Moves : goal.returns-in-Moves
-returns-in-Moves c =
+pub returns-in-Moves-clause-told : goal.returns-in-Moves-clause-told
+returns-in-Moves-clause-told c =
     on_ok_weaker c.push_at_stop.result
     (λ told p profile step r.
     let moved = moves_caused c.in-Moves.is r in
-    let (details, facts, put) = told p in (details, inr (moved.0, facts), put))
-    c.push_at_stop.ensures
+    let (details, facts, put) = told c.args.place.1 p in (details, inr (moved.0, facts), put))
+    c.push_at_stop.ensures.told

@@ -10,10 +10,10 @@ use Rattle.mm_explain.proofs.own_hypotheses.push_each.Goals as goal
 
 pub bounds-firsts-hypothesis : goal.bounds-firsts-hypothesis
 bounds-firsts-hypothesis c =
-    let (before, stated, are, first_are) = c.requires in
+    let (before, stated, rest, are, first_are) = c.requires in
     let told = told_at c.args.book.now.statements before c.args.hypotheses.now stated
     c.loop-hypothesis.hypothesis-index _ are c.loop-hypothesis-test.true in
-    first_within c.args.book.now.statements before c.args.firsts.now stated
+    first_within c.args.book.now.statements before rest c.args.firsts.now stated
     c.loop-hypothesis.hypothesis-index _ first_are told
 
 pub loop-hypothesis-preserved : goal.loop-hypothesis-preserved
@@ -21,13 +21,13 @@ loop-hypothesis-preserved c =
     let files : List PlainFile = map plain_file c.args.files.now in
     let same = c.loop-hypothesis.invariant.0 in (
       c.place_of-place.ensures.files ∙ same,
-      λ before stated are first_are.
+      λ before stated rest are first_are.
           let told = told_at c.args.book.now.statements before c.args.hypotheses.now stated
           c.loop-hypothesis.hypothesis-index _ are c.loop-hypothesis-test.true in
-          one_told files c.args.book.now.statements before c.args.firsts.now stated
+          one_told files c.args.book.now.statements before rest c.args.firsts.now stated
           c.loop-hypothesis.hypothesis-index _ _ c.label.result.now c.args.out.now.items
           c.loop-hypothesis.out.items c.push_hypothesis_at.new.out.items first_are told
-          c.label.ensures (c.loop-hypothesis.invariant.1 before stated are first_are)
+          c.label.ensures (c.loop-hypothesis.invariant.1 before stated rest are first_are)
           (put_there files c.loop-hypothesis.lines _ _ c.label.result.now
           c.loop-hypothesis.out.items c.push_hypothesis_at.new.out.items
           c.place_of-place.result same c.place_of-place.ensures.place
@@ -35,11 +35,11 @@ loop-hypothesis-preserved c =
     )
 
 pub returns : goal.returns
-returns c = λ before stated are first_are.
+returns c = λ before stated rest are first_are.
     let many = as_many (sentences before) c.args.hypotheses.now stated are.numbered in
     subst
     (λ (hs : List Sentence). AddsEach (map plain_file c.args.files.now) before hs
     c.args.out.now.items c.loop-hypothesis.out.items)
     (take_all c.loop-hypothesis.hypothesis-index stated
     (omega (arith, many, c.loop-hypothesis-test.false)))
-    (c.loop-hypothesis.invariant.1 before stated are first_are)
+    (c.loop-hypothesis.invariant.1 before stated rest are first_are)

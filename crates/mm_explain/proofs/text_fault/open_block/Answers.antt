@@ -1,9 +1,8 @@
 -- The last of the blocks that are open at the end is the innermost.
-use Rattle.std.proofs.Common.{List, ap, map, reverse, arith}
+use Rattle.std.proofs.Common.{List, map, arith}
 use Rattle.mm_base.specs.declared.token.Token.{Token}
 use Rattle.mm_text.specs.Files.{plain_file}
 use Rattle.mm_text.proofs.Reader.WholeReadings.{readings_are_balanced}
-use Rattle.mm_explain.specs.Mirror.SemanticErrors.{position_of}
 use Rattle.mm_explain.proofs.InnermostBlocks.{open_block_there, popped}
 use Rattle.mm_explain.proofs.text_fault.open_block.Goals as goal
 

@@ -19,7 +19,7 @@ conclude-requires c =
 
 pub proofs_told-requires : goal.proofs_told-requires
 proofs_told-requires c =
-    let v = c.in-Ok.ensures.visited in rw v.seen.same_files v.seen.readable
+    let v = c.in-Ok.ensures.visited in rw v.seen.same_files v.seen.outline.readable
 
 pub returns-in-Ok-clause-why : goal.returns-in-Ok-clause-why
 returns-in-Ok-clause-why c =
@@ -42,7 +42,7 @@ returns-in-Ok-clause-why c =
 pub told_with_last-requires-clause-readable : goal.told_with_last-requires-clause-readable
 told_with_last-requires-clause-readable c =
     let m = rw c.in-Err-Refused.field-0-is at c.in-Err-Refused.ensures.stopped in
-    rw m.seen.same_files m.seen.readable
+    rw m.seen.same_files m.seen.outline.readable
 
 pub told_with_last-requires-clause-ends : goal.told_with_last-requires-clause-ends
 told_with_last-requires-clause-ends c =

@@ -1,5 +1,5 @@
 -- The label of one more number is offered, if the proof may name it.
-use Rattle.std.proofs.Common.{◌≡◌, ℕ, List, ap, ◌∙◌, arith, true, false}
+use Rattle.std.proofs.Common.{◌≡◌, ℕ, List, ap, ◌∙◌, true, false}
 use Rattle.mm_code.specs.Layout.{texts}
 use Rattle.mm_facts.proofs.NearLabels.{none_gone, all_gone, one_offered, one_passed}
 use Rattle.mm_facts.proofs.details.near_labels.Goals as goal

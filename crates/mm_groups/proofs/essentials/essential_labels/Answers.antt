@@ -1,7 +1,8 @@
 -- A hypothesis without a typing is essential.
 use Rattle.std.proofs.Common.{sym, ◌∙◌}
 use Rattle.mm_frame.specs.Numbers.{labelled_sentences}
-use Rattle.mm_groups.proofs.EssentialLabels.{all_taken, essential_step, other_step}
+use Rattle.mm_frame.proofs.Frames.EssentialHypotheses.{all_stated}
+use Rattle.mm_groups.proofs.EssentialLabels.{essential_step, other_step}
 use Rattle.mm_groups.proofs.essentials.essential_labels.Goals as goal
 
 pub loop-hypothesis-preserved-then-is_some : goal.loop-hypothesis-preserved-then-is_some
@@ -20,6 +21,6 @@ loop-hypothesis-preserved c stated are =
 
 pub returns : goal.returns
 returns c stated are =
-    rw (all_taken (labelled_sentences c.args.book.now.statements) c.args.hypotheses.now stated
+    rw (all_stated (labelled_sentences c.args.book.now.statements) c.args.hypotheses.now stated
     c.loop-hypothesis.hypothesis-index are c.loop-hypothesis-test.false) at
     (c.loop-hypothesis.invariant stated are)

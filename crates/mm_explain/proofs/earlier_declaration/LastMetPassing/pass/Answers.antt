@@ -1,5 +1,4 @@
 -- What the next statement has comes before what was met.
-use Rattle.std.proofs.Common.{◌∙◌, ap}
 use Rattle.mm_base.specs.Statement.{plain_statement}
 use Rattle.mm_explain.proofs.NamesMet.{statement_more}
 use Rattle.mm_explain.proofs.earlier_declaration.LastMetPassing.pass.Goals as goal

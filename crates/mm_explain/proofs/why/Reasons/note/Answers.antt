@@ -1,11 +1,12 @@
 -- The refusal is explained, what it shares is noted, and then it is kept.
-use Rattle.std.proofs.Common.{◌≡◌, ◌++◌, ◌∷◌, [], List, ap, map, length, subst, sym, ◌∙◌}
+use Rattle.std.proofs.Common.{◌++◌, ◌∷◌, [], List, ap, map, subst, sym, ◌∙◌}
 use Rattle.std.proofs.lemmas.Result.{on_ok_weaker}
 use Rattle.mm_base.specs.Statement.{PlainStatement, plain_statement}
 use Rattle.mm_text.specs.Files.{PlainFile, plain_file}
 use Rattle.mm_rules.specs.Answer.{plain_refusal}
 use Rattle.mm_rules.specs.Verdict.{PlainRefusal, sentences}
-use Rattle.mm_explain.specs.Mirror.Reasons.{AreKeptLabels, AreNoted}
+use Rattle.mm_explain.specs.Mirror.Outlined.{IsKeptOutline}
+use Rattle.mm_explain.specs.Mirror.Reasons.{AreNoted}
 use Rattle.mm_explain.proofs.Explanations.{explained_before, noted_more, told_parts}
 use Rattle.mm_explain.proofs.why.Reasons.note.Goals as goal
 
@@ -39,6 +40,6 @@ returns c =
           c.note.new.self r.reads place (rw told.shared at shared));
       explains = explained_before old c.explain.new.self c.keep.new.self
           (plain_refusal c.args.refusal) told.explains put.explanations;
-      labels = subst (λ ls. AreKeptLabels files ls.items) (sym put.labels) told.labels;
+      outline = subst (IsKeptOutline files) (sym put.outline) told.outline;
     })
     put.kept

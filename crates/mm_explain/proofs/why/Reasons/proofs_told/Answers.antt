@@ -1,5 +1,5 @@
 -- The line, the first explanations, and the count of the others.
-use Rattle.std.proofs.Common.{◌≡◌, ◌-◌, List, ap, length, map, min, rules, sym, vec_len, ◌∙◌}
+use Rattle.std.proofs.Common.{◌≡◌, ◌-◌, ap, length, map, min, rules, vec_len, ◌∙◌}
 use Rattle.mm_text.specs.Files.{plain_file}
 use Rattle.mm_explain.proofs.Explanations.{told_proofs}
 use Rattle.mm_explain.proofs.why.Reasons.proofs_told.Goals as goal

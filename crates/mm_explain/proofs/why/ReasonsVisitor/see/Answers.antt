@@ -10,9 +10,9 @@ note-requires-clause-refused c =
     (refused_last n.profile n.files n.taken n.listed c.args.book.now.statements
     (plain_statement c.args.statement.now) c.in-Faulty.refusal (rw c.in-Faulty.is at n.met))
 
-pub note-requires-clause-labels : goal.note-requires-clause-labels
-note-requires-clause-labels c =
-    let n = c.requires.next in rw n.seen.same_files n.seen.labels
+pub note-requires-clause-outline : goal.note-requires-clause-outline
+note-requires-clause-outline c =
+    let n = c.requires.next in rw n.seen.same_files n.seen.outline
 
 pub returns-in_ok-note-in-Faulty-clause-seen : goal.returns-in_ok-note-in-Faulty-clause-seen
 returns-in_ok-note-in-Faulty-clause-seen c = λ profile files first taken listed met seen.
