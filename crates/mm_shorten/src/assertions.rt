@@ -2,7 +2,8 @@
 
 ghost use Rattle.mm_frame.specs.Numbers.{IsAssertionNumber};
 
-use crate::patterns::{Patterns, Placed};
+use crate::patterns::Patterns;
+use crate::range::{Range, part};
 use crate::rests::{Grounds, Rests};
 use crate::trie::next_number;
 use mm_base::Seed;
@@ -16,31 +17,59 @@ pub const MOST_VARIABLES: usize = 60;
 pub const MOST_ESSENTIALS: usize = 31;
 
 /// A `$e` of an assertion of the library.
-#[derive(Drop)]
+#[derive(Clone, Copy)]
 pub(crate) struct Essential {
     /// Its index among the mandatory hypotheses.
     pub(crate) place: u32,
     /// Its pattern.
-    pub(crate) placed: Placed,
-    /// The same with its type code and its symbols, of which expressions are made.
-    pub(crate) pieces: Vec<Piece>,
+    pub(crate) pattern: u32,
+    // Where the places of the pattern's variables stand.
+    places: Range,
+    // Where its type code and its symbols stand, of which expressions are made.
+    pieces: Range,
+}
+
+// An assertion of the library, and where its parts stand in the library's lists.
+#[derive(Clone, Copy)]
+struct Stored {
+    label: LabelId,
+    hypotheses: u32,
+    pattern: u32,
+    places: Range,
+    essentials: Range,
+    pairs: Range,
 }
 
 /// An assertion of the library.
-#[derive(Drop)]
-pub(crate) struct Template {
+#[derive(Clone, Copy)]
+pub(crate) struct Template<'l> {
     /// The number of its label.
     pub(crate) label: LabelId,
     /// How many mandatory hypotheses it has.
     pub(crate) hypotheses: u32,
-    /// The pattern of what it concludes.
-    pub(crate) conclusion: Placed,
+    /// For each variable of the pattern that it concludes, by number, the index of its `$f` among
+    /// the mandatory hypotheses.
+    pub(crate) places: &'l [u32],
     /// Its `$e`, in order.
-    pub(crate) essentials: Vec<Essential>,
+    pub(crate) essentials: &'l [Essential],
     /// The mandatory distinct pairs, by the indices of the variables' `$f` among the hypotheses.
-    pub(crate) pairs: Vec<(u32, u32)>,
-    /// The number of its mathbox; 0 outside of all.
-    pub(crate) mathbox: u32,
+    pub(crate) pairs: &'l [(u32, u32)],
+    // Those of all assertions.
+    all_places: &'l [u32],
+    all_pieces: &'l [Piece],
+}
+
+impl<'l> Template<'l> {
+    /// For each variable of the pattern of one of its `$e`, by number, the index of its `$f` among
+    /// the mandatory hypotheses.
+    pub(crate) fn places_of(&self, essential: Essential) -> &'l [u32] {
+        part(self.all_places, essential.places)
+    }
+
+    /// One of its `$e` with its type code.
+    pub(crate) fn pieces_of(&self, essential: Essential) -> &'l [Piece] {
+        part(self.all_pieces, essential.pieces)
+    }
 }
 
 /// What is asked of a template before it is read.
@@ -54,9 +83,8 @@ pub(crate) struct Candidate {
     pub(crate) hypotheses: u32,
     /// The number of its mathbox; 0 outside of all.
     pub(crate) mathbox: u32,
-    // Where the patterns of its `$e` stand.
-    start: usize,
-    end: usize,
+    // Where its `$e` stand.
+    essentials: Range,
 }
 
 /// How an assertion is entered.
@@ -78,12 +106,17 @@ pub struct Library {
     pub(crate) alloc: Global,
     pub(crate) seed: Seed,
     pub(crate) patterns: Patterns,
-    pub(crate) templates: Vec<Template>,
     pub(crate) grounds: Grounds,
+    templates: Vec<Stored>,
+    /// The `$e` of templates, one template after the other; and so what follows.
+    essentials: Vec<Essential>,
+    /// The places of the variables of patterns.
+    places: Vec<u32>,
+    /// What `$e` say.
+    pieces: Vec<Piece>,
+    pairs: Vec<(u32, u32)>,
     /// For each pattern the templates that conclude it.
     concluding: Vec<Vec<Candidate>>,
-    /// The patterns of the `$e` of all templates, one template after the other.
-    essentials: Vec<u32>,
 }
 
 impl Library {
@@ -93,10 +126,13 @@ impl Library {
             alloc,
             seed,
             patterns: Patterns::new(alloc, seed),
-            templates: Vec::new(alloc),
             grounds: Grounds::new(alloc),
-            concluding: Vec::new(alloc),
+            templates: Vec::new(alloc),
             essentials: Vec::new(alloc),
+            places: Vec::new(alloc),
+            pieces: Vec::new(alloc),
+            pairs: Vec::new(alloc),
+            concluding: Vec::new(alloc),
         }
     }
 
@@ -128,26 +164,34 @@ impl Library {
         if is_too_large(signature.hypotheses) {
             return Ok(());
         }
-        let essentials = self.essentials_of(&signature)?;
-        let pieces = pieces_of(self.alloc, signature.conclusion)?;
-        let conclusion = self.patterns.enter(signature.hypotheses, &pieces)?;
-        if concludes_its_own(&conclusion, &essentials) {
+        let essentials = self.put_essentials(&signature)?;
+        let (pattern, places) = self.put_conclusion(&signature)?;
+        if self.concludes_its_own(pattern, places, essentials) {
             return Ok(());
         }
-        let template = Template {
+        let template = Stored {
             label: id,
-            hypotheses: signature.hypotheses.len().min(u32::MAX as usize) as u32,
-            conclusion,
+            hypotheses: next_number(signature.hypotheses.len()),
+            pattern,
+            places,
             essentials,
-            pairs: pairs_of(self.alloc, &signature)?,
-            mathbox: entry.mathbox,
+            pairs: self.put_pairs(&signature)?,
         };
-        self.put(template)
+        self.put(template, entry.mathbox)
     }
 
     /// The template with a number.
-    pub(crate) fn template(&self, number: u32) -> Option<&Template> {
-        self.templates.get(number as usize)
+    pub(crate) fn template(&self, number: u32) -> Option<Template<'_>> {
+        let stored = self.templates.get(number as usize)?;
+        Some(Template {
+            label: stored.label,
+            hypotheses: stored.hypotheses,
+            places: part(&self.places, stored.places),
+            essentials: part(&self.essentials, stored.essentials),
+            pairs: part(&self.pairs, stored.pairs),
+            all_places: &self.places,
+            all_pieces: &self.pieces,
+        })
     }
 
     /// The templates that conclude a pattern.
@@ -158,61 +202,104 @@ impl Library {
         }
     }
 
-    /// The patterns of the `$e` of a template, in order.
-    pub(crate) fn essential_patterns(&self, candidate: Candidate) -> &[u32] {
-        if candidate.start <= candidate.end && candidate.end <= self.essentials.len() {
-            &self.essentials[candidate.start..candidate.end]
-        } else {
-            &[]
-        }
+    /// The `$e` of a template, in order.
+    pub(crate) fn essentials(&self, candidate: Candidate) -> &[Essential] {
+        part(&self.essentials, candidate.essentials)
     }
 
-    // The `$e` of a signature, whose patterns are entered.
-    fn essentials_of(&mut self, signature: &Signature) -> Result<Vec<Essential>, AllocError> {
-        let mut essentials = Vec::new(self.alloc);
+    // Puts the `$e` of a signature, whose patterns are entered, behind the others.
+    fn put_essentials(&mut self, signature: &Signature) -> Result<Range, AllocError> {
+        let start = next_number(self.essentials.len());
         for (place, hypothesis) in signature.hypotheses.iter().enumerate() {
-            if hypothesis.typing.is_some() {
-                continue;
+            if hypothesis.typing.is_none() {
+                let stored = signature.pattern(hypothesis);
+                self.put_essential(signature, next_number(place), stored)?;
             }
-            let pieces = pieces_of(self.alloc, signature.pattern(hypothesis))?;
-            let placed = self.patterns.enter(signature.hypotheses, &pieces)?;
-            essentials.push(Essential {
-                place: place.min(u32::MAX as usize) as u32,
-                placed,
-                pieces,
-            })?;
         }
-        Ok(essentials)
+        let end = next_number(self.essentials.len());
+        Ok(Range { start, end })
     }
 
-    // Appends a template to the others.
-    fn put(&mut self, template: Template) -> Result<(), AllocError> {
-        let candidate = self.candidate(&template)?;
-        for _ in self.concluding.len()..self.patterns.count() as usize {
-            self.concluding.push(Vec::new(self.alloc))?;
-        }
-        let pattern = template.conclusion.pattern;
-        self.templates.push(template)?;
-        if let Some(candidates) = self.concluding.get_mut(pattern as usize) {
-            candidates.push(candidate)?;
-        }
+    // Puts a `$e` of a signature, which stands at a place, behind the others.
+    fn put_essential(
+        &mut self,
+        signature: &Signature,
+        place: u32,
+        stored: &[ShortPiece],
+    ) -> Result<(), AllocError> {
+        let pieces = pieces_of(self.alloc, stored)?;
+        let (pattern, places) = self.put_pattern(signature, &pieces)?;
+        let start = next_number(self.pieces.len());
+        self.pieces.extend_from_slice(&pieces)?;
+        let end = next_number(self.pieces.len());
+        self.essentials.push(Essential {
+            place,
+            pattern,
+            places,
+            pieces: Range { start, end },
+        })?;
         Ok(())
     }
 
-    // What is asked of a template that is put behind the others.
-    fn candidate(&mut self, template: &Template) -> Result<Candidate, AllocError> {
-        let start = self.essentials.len();
-        for essential in &template.essentials {
-            self.essentials.push(essential.placed.pattern)?;
+    // Enters the pattern of what a signature concludes.
+    fn put_conclusion(&mut self, signature: &Signature) -> Result<(u32, Range), AllocError> {
+        let pieces = pieces_of(self.alloc, signature.conclusion)?;
+        self.put_pattern(signature, &pieces)
+    }
+
+    // Enters the pattern that these pieces of a signature are, and puts the places of its variables
+    // behind the others.
+    fn put_pattern(
+        &mut self,
+        signature: &Signature,
+        pieces: &[Piece],
+    ) -> Result<(u32, Range), AllocError> {
+        let start = next_number(self.places.len());
+        let placed = self.patterns.enter(signature.hypotheses, pieces)?;
+        self.places.extend_from_slice(&placed.places)?;
+        let end = next_number(self.places.len());
+        Ok((placed.pattern, Range { start, end }))
+    }
+
+    // Puts the mandatory distinct pairs of a signature behind the others.
+    fn put_pairs(&mut self, signature: &Signature) -> Result<Range, AllocError> {
+        let start = next_number(self.pairs.len());
+        for pair in signature.pairs {
+            self.pairs.push(pair.indices)?;
         }
-        Ok(Candidate {
+        let end = next_number(self.pairs.len());
+        Ok(Range { start, end })
+    }
+
+    // Whether a pattern with these places is that of one of these `$e`, with the same places.
+    fn concludes_its_own(&self, pattern: u32, places: Range, essentials: Range) -> bool {
+        for essential in part(&self.essentials, essentials) {
+            if essential.pattern == pattern
+                && part(&self.places, essential.places) == part(&self.places, places)
+            {
+                return true;
+            }
+        }
+        false
+    }
+
+    // Puts a template behind the others.
+    fn put(&mut self, template: Stored, mathbox: u32) -> Result<(), AllocError> {
+        for _ in self.concluding.len()..self.patterns.count() as usize {
+            self.concluding.push(Vec::new(self.alloc))?;
+        }
+        let candidate = Candidate {
             number: next_number(self.templates.len()),
             label: template.label,
             hypotheses: template.hypotheses,
-            mathbox: template.mathbox,
-            start,
-            end: self.essentials.len(),
-        })
+            mathbox,
+            essentials: template.essentials,
+        };
+        self.templates.push(template)?;
+        if let Some(candidates) = self.concluding.get_mut(template.pattern as usize) {
+            candidates.push(candidate)?;
+        }
+        Ok(())
     }
 }
 
@@ -229,26 +316,4 @@ fn pieces_of(alloc: Global, stored: &[ShortPiece]) -> Result<Vec<Piece>, AllocEr
         pieces.push(piece.piece())?;
     }
     Ok(pieces)
-}
-
-// The mandatory distinct pairs of a signature, by indices.
-fn pairs_of(alloc: Global, signature: &Signature) -> Result<Vec<(u32, u32)>, AllocError> {
-    let mut pairs = Vec::with_capacity(alloc, signature.pairs.len())?;
-    for pair in signature.pairs {
-        pairs.push(pair.indices)?;
-    }
-    Ok(pairs)
-}
-
-// Whether the conclusion is one of these `$e`.
-fn concludes_its_own(conclusion: &Placed, essentials: &[Essential]) -> bool {
-    for essential in essentials {
-        let placed = &essential.placed;
-        if placed.pattern == conclusion.pattern
-            && placed.places.as_slice() == conclusion.places.as_slice()
-        {
-            return true;
-        }
-    }
-    false
 }

@@ -3,15 +3,16 @@
 ghost use Rattle.std.specs.Prelude.{◌≤◌};
 
 use crate::apart::Variables;
-use crate::assertions::{Candidate, Library, Template};
+use crate::assertions::{Candidate, Essential, Library, Template};
 use crate::budget::Budget;
 use crate::goals::Goal;
 use crate::graph::{Edge, Graph, Origin};
-use crate::join::{Join, Met};
+use crate::join::{Join, Met, children_of, node_at};
+use crate::lists::set;
 use crate::matches::{Matches, Row};
 use crate::missing::{Open, Opened};
 use crate::rests::is_within;
-use indexmap::IndexMap;
+use crate::trie::{NOTHING, next_number};
 use mm_base::Seed;
 use mm_frame::{Book, Frame, LabelId};
 use std::alloc::{AllocError, Global};
@@ -31,23 +32,29 @@ pub struct Theorem<'t, 'b, 'a> {
 
 /// What edges are sought for: by node, the nodes that a proof needs.
 #[derive(Drop)]
-pub(crate) struct Goals {
-    by_node: IndexMap<u32, Goal, Seed>,
+pub(crate) struct Goals<'g> {
+    goals: &'g [Goal],
+    /// For each node, up to the greatest that is a goal, the index of the goal that it is.
+    by_node: Vec<u32>,
 }
 
-impl Goals {
-    /// These goals; the hashes of their nodes begin from the seed.
-    pub(crate) fn new(alloc: Global, seed: Seed, goals: &[Goal]) -> Result<Goals, AllocError> {
-        let mut by_node = IndexMap::with_hasher(alloc, seed);
-        for goal in goals {
-            by_node.insert(goal.node, *goal)?;
+impl<'g> Goals<'g> {
+    /// These goals.
+    pub(crate) fn new(alloc: Global, goals: &'g [Goal]) -> Result<Goals<'g>, AllocError> {
+        let mut by_node = Vec::new(alloc);
+        for (index, goal) in goals.iter().enumerate() {
+            for _ in by_node.len()..=goal.node as usize {
+                by_node.push(NOTHING)?;
+            }
+            set(&mut by_node, goal.node, next_number(index));
         }
-        Ok(Goals { by_node })
+        Ok(Goals { goals, by_node })
     }
 
     // The goal that a node is.
     fn at(&self, node: u32) -> Option<Goal> {
-        self.by_node.get(&node).copied()
+        let index = self.by_node.get(node as usize).copied()?;
+        self.goals.get(index as usize).copied()
     }
 }
 
@@ -68,7 +75,7 @@ pub(crate) struct Search<'s, 't, 'b, 'a> {
     pub(crate) theorem: &'s Theorem<'t, 'b, 'a>,
     /// What the theorem depends on.
     pub(crate) grounds: &'s [u32],
-    pub(crate) goals: &'s Goals,
+    pub(crate) goals: &'s Goals<'s>,
     /// Whether one `$e` may be missing.
     pub(crate) may_lack: bool,
 }
@@ -142,7 +149,7 @@ impl<'s, 't, 'b, 'a> Search<'s, 't, 'b, 'a> {
                 number: candidate.number,
             };
             if let Some(template) = self.library.template(candidate.number) {
-                self.run_join(ask, template, matches, graph, finds, budget)?;
+                self.run_join(ask, &template, matches, graph, finds, budget)?;
             }
         }
         Ok(())
@@ -156,8 +163,8 @@ impl<'s, 't, 'b, 'a> Search<'s, 't, 'b, 'a> {
         if candidate.mathbox != 0 && candidate.mathbox != self.theorem.mathbox {
             return false;
         }
-        let patterns = self.library.essential_patterns(candidate);
-        if lacks_more(patterns, self.may_lack, matches) {
+        let essentials = self.library.essentials(candidate);
+        if lacks_more(essentials, self.may_lack, matches) {
             return false;
         }
         is_within(self.library.grounds.set(candidate.label), self.grounds)
@@ -181,9 +188,6 @@ impl<'s, 't, 'b, 'a> Search<'s, 't, 'b, 'a> {
         finds.join.reset(template, may_lack)?;
         finds.join.begin(template, matches.bindings(ask.row))?;
         finds.join.run(template, matches, budget)?;
-        if finds.join.met.is_empty() {
-            return Ok(());
-        }
         self.take_all(ask, template, graph, finds, budget)
     }
 
@@ -198,8 +202,10 @@ impl<'s, 't, 'b, 'a> Search<'s, 't, 'b, 'a> {
     ) -> Result<(), AllocError>
         ensures { budget.new ≤ budget.old }
     {
-        let all = std::mem::replace(&mut finds.join.met, Vec::new(self.library.alloc));
-        for met in &all {
+        for index in 0..finds.join.met.len() {
+            let Some(met) = finds.join.met.get(index) else {
+                break;
+            };
             if self.is_allowed(ask, template, met, graph, finds, budget)? {
                 self.take(ask, template, met, graph, finds)?;
             }
@@ -212,18 +218,19 @@ impl<'s, 't, 'b, 'a> Search<'s, 't, 'b, 'a> {
         &self,
         ask: Ask,
         template: &Template,
-        met: &Met,
+        met: Met,
         graph: &Graph,
         finds: &mut Finds,
         budget: &mut Budget,
     ) -> Result<bool, AllocError>
         ensures { budget.new ≤ budget.old }
     {
-        if met.nodes.iter().any(|node| *node == Some(ask.goal.node)) {
+        let nodes = finds.join.met.nodes(met);
+        if nodes.iter().any(|node| *node == Some(ask.goal.node)) {
             return Ok(false);
         }
-        for pair in &template.pairs {
-            let (Some(one), Some(other)) = (met.at(pair.0), met.at(pair.1)) else {
+        for pair in template.pairs {
+            let (Some(one), Some(other)) = (node_at(nodes, pair.0), node_at(nodes, pair.1)) else {
                 return Ok(false);
             };
             let theorem = self.theorem;
@@ -242,27 +249,27 @@ impl<'s, 't, 'b, 'a> Search<'s, 't, 'b, 'a> {
         &self,
         ask: Ask,
         template: &Template,
-        met: &Met,
+        met: Met,
         graph: &mut Graph,
         finds: &mut Finds,
     ) -> Result<(), AllocError> {
-        let alloc = self.library.alloc;
+        let nodes = finds.join.met.nodes(met);
         if let Some(essential) = met.missing {
             let gain = ask
                 .goal
                 .exclusive
                 .saturating_sub(template.hypotheses as u64);
-            return finds.opened.add(Open {
+            let open = Open {
                 goal: ask.goal.node,
                 gain,
                 number: ask.number,
                 essential,
-                nodes: Vec::from_slice(alloc, &met.nodes)?,
-            });
+            };
+            return finds.opened.add(open, nodes);
         }
         let edge = Edge {
             label: template.label.0,
-            children: met.children(alloc, 0)?,
+            children: children_of(self.library.alloc, nodes, 0)?,
             origin: Origin::Library,
         };
         graph.add(ask.goal.node, edge)?;
@@ -270,11 +277,11 @@ impl<'s, 't, 'b, 'a> Search<'s, 't, 'b, 'a> {
     }
 }
 
-// Whether more of these patterns have no row that was listed than may: one, or none.
-fn lacks_more(patterns: &[u32], may_lack: bool, matches: &Matches) -> bool {
+// Whether of more of these `$e` than may no row was listed: of one, or of none.
+fn lacks_more(essentials: &[Essential], may_lack: bool, matches: &Matches) -> bool {
     let mut may_lack = may_lack;
-    for pattern in patterns {
-        if !matches.has(*pattern) {
+    for essential in essentials {
+        if !matches.has(essential.pattern) {
             if !may_lack {
                 return true;
             }

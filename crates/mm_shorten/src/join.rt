@@ -5,7 +5,8 @@ ghost use Rattle.std.specs.Prelude.{◌≤◌};
 use crate::assertions::{Essential, Template};
 use crate::budget::Budget;
 use crate::matches::Matches;
-use crate::patterns::Placed;
+use crate::range::{Range, part};
+use crate::trie::next_number;
 use std::alloc::{AllocError, Global};
 
 /// A join for one assertion and one conclusion takes no more steps.
@@ -15,24 +16,69 @@ pub const JOIN_STEPS: u32 = 3_000;
 pub const JOIN_FOUND: usize = 100;
 
 /// A way to meet the hypotheses of an assertion.
-#[derive(Drop)]
+#[derive(Clone, Copy)]
 pub(crate) struct Met {
-    /// For each mandatory hypothesis the node that meets it; none where it is missing.
-    pub(crate) nodes: Vec<Option<u32>>,
+    // Where the nodes stand.
+    nodes: Range,
     /// The index of the missing `$e` among the `$e`.
     pub(crate) missing: Option<usize>,
 }
 
-impl Met {
-    /// The node that meets the hypothesis at a place.
-    pub(crate) fn at(&self, place: u32) -> Option<u32> {
-        self.nodes.get(place as usize).copied().flatten()
+/// Ways to meet the hypotheses of an assertion.
+#[derive(Drop)]
+pub(crate) struct Ways {
+    ways: Vec<Met>,
+    /// For each mandatory hypothesis, of one way after the other, the node that meets it; none
+    /// where it is missing.
+    nodes: Vec<Option<u32>>,
+}
+
+impl Ways {
+    // No ways. It takes no memory.
+    fn new(alloc: Global) -> Ways {
+        Ways {
+            ways: Vec::new(alloc),
+            nodes: Vec::new(alloc),
+        }
     }
 
-    /// The nodes that meet the hypotheses, with this one for what is missing.
-    pub(crate) fn children(&self, alloc: Global, missing: u32) -> Result<Vec<u32>, AllocError> {
-        children_of(alloc, &self.nodes, missing)
+    // Forgets all.
+    fn clear(&mut self) {
+        self.ways.clear();
+        self.nodes.clear();
     }
+
+    // Adds one.
+    fn add(&mut self, nodes: &[Option<u32>], missing: Option<usize>) -> Result<(), AllocError> {
+        let start = next_number(self.nodes.len());
+        self.nodes.extend_from_slice(nodes)?;
+        let end = next_number(self.nodes.len());
+        self.ways.push(Met {
+            nodes: Range { start, end },
+            missing,
+        })?;
+        Ok(())
+    }
+
+    /// How many there are.
+    pub(crate) fn len(&self) -> usize {
+        self.ways.len()
+    }
+
+    /// The one with an index.
+    pub(crate) fn get(&self, index: usize) -> Option<Met> {
+        self.ways.get(index).copied()
+    }
+
+    /// For each mandatory hypothesis the node that meets it; none where it is missing.
+    pub(crate) fn nodes(&self, met: Met) -> &[Option<u32>] {
+        part(&self.nodes, met.nodes)
+    }
+}
+
+/// The node at a place among these.
+pub(crate) fn node_at(nodes: &[Option<u32>], place: u32) -> Option<u32> {
+    nodes.get(place as usize).copied().flatten()
 }
 
 /// These nodes, with this one for what is missing.
@@ -56,14 +102,13 @@ struct Level {
     /// The `$e` that are left behind it, as bits.
     left: u32,
     missing: Option<usize>,
-    /// The number of the list of rows, and how many of these were tried.
-    list: u32,
-    tried: usize,
+    /// The number of the entry of its list of rows that is tried next.
+    next: u32,
     /// How many hypotheses were bound before.
     bound: usize,
 }
 
-// Which `$e` is next, with the number of its list of rows, and what is left behind it.
+// Which `$e` is next, with the first entry of its list of rows, and what is left behind it.
 #[derive(Clone, Copy)]
 struct Choice {
     next: Option<(usize, u32)>,
@@ -75,7 +120,6 @@ struct Choice {
 /// are used again for the next assertion.
 #[derive(Drop)]
 pub(crate) struct Join {
-    alloc: Global,
     /// For each mandatory hypothesis the node that it is bound to.
     nodes: Vec<Option<u32>>,
     /// The places that were bound, in order.
@@ -84,20 +128,19 @@ pub(crate) struct Join {
     steps: u32,
     may_lack: bool,
     /// What was found.
-    pub(crate) met: Vec<Met>,
+    pub(crate) met: Ways,
 }
 
 impl Join {
     /// A join for no assertion yet. It takes no memory.
     pub(crate) fn new(alloc: Global) -> Join {
         Join {
-            alloc,
             nodes: Vec::new(alloc),
             trail: Vec::new(alloc),
             levels: Vec::new(alloc),
             steps: 0,
             may_lack: false,
-            met: Vec::new(alloc),
+            met: Ways::new(alloc),
         }
     }
 
@@ -120,7 +163,7 @@ impl Join {
         template: &Template,
         bindings: &[u32],
     ) -> Result<(), AllocError> {
-        self.bind_all(&template.conclusion, bindings)?;
+        self.bind_all(template.places, bindings)?;
         Ok(())
     }
 
@@ -163,20 +206,20 @@ impl Join {
     ) -> Result<(), AllocError>
         ensures { budget.new ≤ budget.old }
     {
-        let Some(number) = matches.list(level.list).get(level.tried).copied() else {
+        let Some(entry) = matches.entry(level.next) else {
             return Ok(());
         };
         self.levels.push(Level {
-            tried: level.tried.saturating_add(1),
+            next: entry.next,
             ..level
         })?;
-        let Some(row) = matches.row(number as usize) else {
+        let Some(row) = matches.row(entry.row as usize) else {
             return Ok(());
         };
-        let Some(essential) = template.essentials.get(level.essential) else {
+        let Some(essential) = template.essentials.get(level.essential).copied() else {
             return Ok(());
         };
-        if self.bind_all(&essential.placed, matches.bindings(row))?
+        if self.bind_all(template.places_of(essential), matches.bindings(row))?
             && self.bind(essential.place, row.conclusion)?
         {
             self.open(template, level.left, level.missing, matches, budget)?;
@@ -201,22 +244,23 @@ impl Join {
             left,
             missing,
         };
-        let mut fewest = usize::MAX;
+        let mut fewest = u32::MAX;
         for (index, essential) in template.essentials.iter().enumerate() {
             if left & bit(index) == 0 {
                 continue;
             }
-            let list = matches.find(&essential.placed, &self.nodes, budget)?;
-            let count = matches.list(list).len();
-            if count == 0 {
+            let places = template.places_of(*essential);
+            let number = matches.find(essential.pattern, places, &self.nodes, budget)?;
+            let list = matches.list(number);
+            if list.count == 0 {
                 if !self.may_lack || choice.missing.is_some() {
                     return Ok(());
                 }
                 choice.missing = Some(index);
                 choice.left &= !bit(index);
-            } else if count < fewest {
-                fewest = count;
-                choice.next = Some((index, list));
+            } else if list.count < fewest {
+                fewest = list.count;
+                choice.next = Some((index, list.first));
             }
         }
         self.choose(template, choice)
@@ -225,12 +269,11 @@ impl Join {
     // Goes on with a choice, or keeps what is met.
     fn choose(&mut self, template: &Template, choice: Choice) -> Result<(), AllocError> {
         match choice.next {
-            Some((essential, list)) => self.levels.push(Level {
+            Some((essential, next)) => self.levels.push(Level {
                 essential,
                 left: choice.left & !bit(essential),
                 missing: choice.missing,
-                list,
-                tried: 0,
+                next,
                 bound: self.trail.len(),
             })?,
             None => self.keep(template, choice.missing)?,
@@ -245,10 +288,7 @@ impl Join {
             None => None,
         };
         if self.is_bound_but(hole) {
-            self.met.push(Met {
-                nodes: Vec::from_slice(self.alloc, &self.nodes)?,
-                missing,
-            })?;
+            self.met.add(&self.nodes, missing)?;
         }
         Ok(())
     }
@@ -264,12 +304,12 @@ impl Join {
 
     // What is bound at a place.
     fn at(&self, place: u32) -> Option<u32> {
-        self.nodes.get(place as usize).copied().flatten()
+        node_at(&self.nodes, place)
     }
 
-    // Binds the places of a pattern, and answers whether they weren't bound otherwise.
-    fn bind_all(&mut self, placed: &Placed, bindings: &[u32]) -> Result<bool, AllocError> {
-        for (place, value) in placed.places.iter().zip(bindings) {
+    // Binds places, and answers whether they weren't bound otherwise.
+    fn bind_all(&mut self, places: &[u32], bindings: &[u32]) -> Result<bool, AllocError> {
+        for (place, value) in places.iter().zip(bindings) {
             if !self.bind(*place, *value)? {
                 return Ok(false);
             }

@@ -29,6 +29,7 @@ mod order;
 mod outline;
 mod patterns;
 mod price;
+mod range;
 mod rests;
 mod room;
 mod search;

@@ -4,9 +4,9 @@ ghost use Rattle.std.specs.Prelude.{◌≤◌, length, OnOk};
 
 use crate::budget::Budget;
 use crate::lists::{at, set};
-use crate::patterns::Placed;
+use crate::range::{Range, part};
 use crate::room::{MOST_HELD, has_room};
-use crate::trie::next_number;
+use crate::trie::{NOTHING, next_number};
 use indexmap::IndexMap;
 use mm_base::Seed;
 use std::alloc::{AllocError, Global};
@@ -21,8 +21,7 @@ pub(crate) struct Row {
     /// The node of the conclusion.
     pub(crate) conclusion: u32,
     // Where the bindings of the pattern's variables stand.
-    start: usize,
-    end: usize,
+    bindings: Range,
 }
 
 // Some variables of a pattern, as bits by their numbers.
@@ -43,16 +42,41 @@ struct Key {
 /// The number of a list with no rows.
 const NO_ROWS: u32 = 0;
 
+/// A row in a list.
+#[derive(Clone, Copy)]
+pub(crate) struct Entry {
+    /// The row's index.
+    pub(crate) row: u32,
+    /// The number of the next entry of the list; `NOTHING` where it is the last.
+    pub(crate) next: u32,
+}
+
+/// A list of rows.
+#[derive(Clone, Copy)]
+pub(crate) struct List {
+    /// The number of the first entry; `NOTHING` where there is none.
+    pub(crate) first: u32,
+    /// The number of the last entry; `NOTHING` where there is none.
+    last: u32,
+    /// How many rows it has.
+    pub(crate) count: u32,
+}
+
+const NO_ENTRY: List = List {
+    first: NOTHING,
+    last: NOTHING,
+    count: 0,
+};
+
 /// Rows, and lists of some of them: for each pattern those that were listed, and for some variables
 /// of a pattern and what they are bound to those that may agree with that.
 #[derive(Drop)]
 pub(crate) struct Matches {
-    alloc: Global,
     rows: Vec<Row>,
     bindings: Vec<u32>,
-    lists: Vec<Vec<u32>>,
-    /// How many indices the lists have in all.
-    listed: usize,
+    lists: Vec<List>,
+    /// The entries of all lists.
+    entries: Vec<Entry>,
     /// For each pattern, up to the greatest that has one, the number of its list.
     by_pattern: Vec<u32>,
     by_key: IndexMap<Key, u32, Seed>,
@@ -64,11 +88,10 @@ impl Matches {
     /// No rows; the hashes of what lists are found by begin from the seed.
     pub(crate) fn new(alloc: Global, seed: Seed) -> Result<Matches, AllocError> {
         let mut matches = Matches {
-            alloc,
             rows: Vec::new(alloc),
             bindings: Vec::new(alloc),
             lists: Vec::new(alloc),
-            listed: 0,
+            entries: Vec::new(alloc),
             by_pattern: Vec::new(alloc),
             by_key: IndexMap::with_hasher(alloc, seed),
             made: IndexMap::with_hasher(alloc, seed),
@@ -89,11 +112,7 @@ impl Matches {
 
     /// For each variable of a row's pattern the node of the syntax that replaces it.
     pub(crate) fn bindings(&self, row: Row) -> &[u32] {
-        if row.start <= row.end && row.end <= self.bindings.len() {
-            &self.bindings[row.start..row.end]
-        } else {
-            &[]
-        }
+        part(&self.bindings, row.bindings)
     }
 
     /// Adds a row, which is in no list, where there is room for it.
@@ -111,11 +130,14 @@ impl Matches {
             return Ok(());
         }
         self.bindings.extend_from_slice(bindings)?;
+        let bindings = Range {
+            start: next_number(start),
+            end: next_number(self.bindings.len()),
+        };
         self.rows.push(Row {
             pattern,
             conclusion,
-            start,
-            end: self.bindings.len(),
+            bindings,
         })?;
         Ok(())
     }
@@ -136,35 +158,42 @@ impl Matches {
         self.list_of(pattern) != NO_ROWS
     }
 
-    /// The indices of the rows in the list with a number.
-    pub(crate) fn list(&self, list: u32) -> &[u32] {
-        match self.lists.get(list as usize) {
-            Some(indices) => indices,
-            None => &[],
-        }
+    /// The list with a number.
+    pub(crate) fn list(&self, list: u32) -> List {
+        self.lists.get(list as usize).copied().unwrap_or(NO_ENTRY)
     }
 
-    /// The number of the list of the rows of a pattern that may agree with what is bound at its
-    /// places.
+    /// The entry with a number.
+    pub(crate) fn entry(&self, entry: u32) -> Option<Entry> {
+        self.entries.get(entry as usize).copied()
+    }
+
+    /// The number of the list of the rows of a pattern that may agree with what is bound at the
+    /// places of its variables.
     pub(crate) fn find(
         &mut self,
-        placed: &Placed,
+        pattern: u32,
+        places: &[u32],
         bound: &[Option<u32>],
         budget: &mut Budget,
     ) -> Result<u32, AllocError>
         ensures { budget.new ≤ budget.old }
     {
-        let all = self.list_of(placed.pattern);
+        let all = self.list_of(pattern);
         if all == NO_ROWS {
             return Ok(NO_ROWS);
         }
-        let key = key_at(placed, bound);
+        let key = key_at(pattern, places, bound);
         if key.mask.bits == 0 {
             return Ok(all);
         }
-        if self.made.get(&key.mask).is_none() {
-            self.make(all, key.mask, budget)?;
+        if let Some(list) = self.by_key.get(&key) {
+            return Ok(*list);
         }
+        if self.made.get(&key.mask).is_some() {
+            return Ok(NO_ROWS);
+        }
+        self.make(all, key.mask, budget)?;
         Ok(self.by_key.get(&key).copied().unwrap_or(NO_ROWS))
     }
 
@@ -200,20 +229,29 @@ impl Matches {
     // Adds a list of no rows, and answers its number.
     fn add_list(&mut self) -> Result<u32, AllocError> {
         let list = next_number(self.lists.len());
-        self.lists.push(Vec::new(self.alloc))?;
+        self.lists.push(NO_ENTRY)?;
         Ok(list)
     }
 
     // Adds the index of a row to a list, where there is room for it.
     fn put(&mut self, list: u32, row: usize) -> Result<(), AllocError> {
-        if !has_room(self.listed) {
+        if !has_room(self.entries.len()) {
             return Ok(());
         }
-        let row = next_number(row);
-        if let Some(list) = self.lists.get_mut(list as usize) {
-            list.push(row)?;
+        let Some(list) = self.lists.get_mut(list as usize) else {
+            return Ok(());
+        };
+        let number = next_number(self.entries.len());
+        self.entries.push(Entry {
+            row: next_number(row),
+            next: NOTHING,
+        })?;
+        match self.entries.get_mut(list.last as usize) {
+            Some(last) => last.next = number,
+            None => list.first = number,
         }
-        self.listed = self.listed.saturating_add(1);
+        list.last = number;
+        list.count = list.count.saturating_add(1);
         Ok(())
     }
 
@@ -222,18 +260,28 @@ impl Matches {
         ensures { budget.new ≤ budget.old }
     {
         self.made.insert(mask, ())?;
-        for at in 0..self.list(all).len() {
-            if !budget.take(1) || !has_room(self.listed) {
+        let mut next = self.list(all).first;
+        for _ in 0..self.list(all).count {
+            if !budget.take(1) || !has_room(self.entries.len()) {
                 break;
             }
-            let index = self.list(all).get(at).copied().unwrap_or(0) as usize;
-            if let Some(row) = self.row(index) {
-                let key = key_in(mask, self.bindings(row));
-                let list = self.list_at(key)?;
-                self.put(list, index)?;
-            }
+            let Some(entry) = self.entry(next) else {
+                break;
+            };
+            next = entry.next;
+            self.list_row(mask, entry.row as usize)?;
         }
         Ok(())
+    }
+
+    // Adds a row to the list of some variables of its pattern, and what it binds them to.
+    fn list_row(&mut self, mask: Mask, index: usize) -> Result<(), AllocError> {
+        let Some(row) = self.row(index) else {
+            return Ok(());
+        };
+        let key = key_in(mask, self.bindings(row));
+        let list = self.list_at(key)?;
+        self.put(list, index)
     }
 }
 
@@ -256,21 +304,18 @@ fn bound_at(bound: &[Option<u32>], place: u32) -> Option<u32> {
     bound.get(place as usize).copied().flatten()
 }
 
-// The variables of a pattern that are bound at its places, and what they are bound to.
-fn key_at(placed: &Placed, bound: &[Option<u32>]) -> Key {
+// The variables of a pattern that are bound at these places, and what they are bound to.
+fn key_at(pattern: u32, places: &[u32], bound: &[Option<u32>]) -> Key {
     let mut bits = 0;
     let mut hash = 1;
-    for (number, place) in placed.places.iter().enumerate() {
+    for (number, place) in places.iter().enumerate() {
         if let Some(value) = bound_at(bound, *place) {
             bits |= bit(number);
             hash = mixed(hash, value);
         }
     }
     Key {
-        mask: Mask {
-            pattern: placed.pattern,
-            bits,
-        },
+        mask: Mask { pattern, bits },
         bound: hash,
     }
 }

@@ -7,10 +7,12 @@ use crate::budget::Budget;
 use crate::goals::Goal;
 use crate::graph::{Edge, Graph, Origin};
 use crate::join::children_of;
+use crate::range::{Range, part};
 use crate::room::has_room;
+use crate::trie::next_number;
 use indexmap::IndexMap;
 use mm_base::Seed;
-use mm_frame::{Piece, Sym};
+use mm_frame::{LabelId, Piece, Sym};
 use std::alloc::{AllocError, Global};
 
 /// Of one assertion no more steps are opened in a proof.
@@ -26,7 +28,7 @@ pub const MOST_WANTED: usize = 2_000;
 pub const MOST_WANTED_SYMBOLS: usize = 1 << 24;
 
 /// A step that a hypothesis is missing for.
-#[derive(Drop)]
+#[derive(Clone, Copy)]
 pub(crate) struct Open {
     /// The node that it would derive.
     pub(crate) goal: u32,
@@ -36,16 +38,21 @@ pub(crate) struct Open {
     pub(crate) number: u32,
     /// The index of the missing `$e` among the `$e`.
     pub(crate) essential: usize,
-    /// For each mandatory hypothesis but the missing one the node that meets it.
-    pub(crate) nodes: Vec<Option<u32>>,
+}
+
+// A step that was opened, and where the nodes that meet its hypotheses stand.
+#[derive(Clone, Copy)]
+struct Kept {
+    open: Open,
+    nodes: Range,
 }
 
 /// The steps of a proof that a hypothesis is missing for.
 #[derive(Drop)]
 pub(crate) struct Opened {
-    steps: Vec<Open>,
-    /// How many hypotheses they have in all.
-    hypotheses: usize,
+    steps: Vec<Kept>,
+    /// For each mandatory hypothesis of each step, but the missing one, the node that meets it.
+    nodes: Vec<Option<u32>>,
     /// For each template how many there are of it.
     counts: IndexMap<u32, u32, Seed>,
 }
@@ -60,11 +67,11 @@ struct Rank {
 }
 
 // A step whose missing hypothesis has a node.
-#[derive(Drop)]
+#[derive(Clone, Copy)]
 struct Wanting {
-    goal: u32,
+    step: Kept,
+    label: LabelId,
     missing: u32,
-    edge: Edge,
 }
 
 /// The steps that wait for missing hypotheses to be proved, and these.
@@ -75,6 +82,8 @@ pub(crate) struct Wanted {
     pub(crate) goals: Vec<Goal>,
     /// By node, the index among the goals.
     by_node: IndexMap<u32, usize, Seed>,
+    /// The last missing hypothesis that was made.
+    instance: Vec<Sym>,
 }
 
 impl Opened {
@@ -82,23 +91,34 @@ impl Opened {
     pub(crate) fn new(alloc: Global, seed: Seed) -> Opened {
         Opened {
             steps: Vec::new(alloc),
-            hypotheses: 0,
+            nodes: Vec::new(alloc),
             counts: IndexMap::with_hasher(alloc, seed),
         }
     }
 
     /// Whether there may be one more by a template.
     pub(crate) fn may_open(&self, number: u32) -> bool {
-        self.count(number) < OPEN_EACH && self.steps.len() < MOST_OPEN && has_room(self.hypotheses)
+        self.count(number) < OPEN_EACH && self.steps.len() < MOST_OPEN && has_room(self.nodes.len())
     }
 
-    /// Adds a step.
-    pub(crate) fn add(&mut self, open: Open) -> Result<(), AllocError> {
+    /// Adds a step. For each mandatory hypothesis but the missing one the node that meets it is
+    /// handed in.
+    pub(crate) fn add(&mut self, open: Open, nodes: &[Option<u32>]) -> Result<(), AllocError> {
         let count = self.count(open.number).saturating_add(1);
         self.counts.insert(open.number, count)?;
-        self.hypotheses = self.hypotheses.saturating_add(open.nodes.len());
-        self.steps.push(open)?;
+        let start = next_number(self.nodes.len());
+        self.nodes.extend_from_slice(nodes)?;
+        let end = next_number(self.nodes.len());
+        self.steps.push(Kept {
+            open,
+            nodes: Range { start, end },
+        })?;
         Ok(())
+    }
+
+    // The nodes that meet the hypotheses of a step.
+    fn nodes_of(&self, step: Kept) -> &[Option<u32>] {
+        part(&self.nodes, step.nodes)
     }
 
     // How many there are by a template.
@@ -111,8 +131,8 @@ impl Opened {
         let mut ranks = Vec::with_capacity(alloc, self.steps.len())?;
         for (index, step) in self.steps.iter().enumerate() {
             ranks.push(Rank {
-                count: self.count(step.number),
-                loss: u64::MAX - step.gain,
+                count: self.count(step.open.number),
+                loss: u64::MAX - step.open.gain,
                 index,
             })?;
         }
@@ -133,6 +153,7 @@ impl Opened {
             waiting: Vec::new(library.alloc),
             goals: Vec::new(library.alloc),
             by_node: IndexMap::with_hasher(library.alloc, library.seed),
+            instance: Vec::new(library.alloc),
         };
         match self.want_all(library, graph, &mut wanted, budget) {
             Ok(()) => Ok(wanted),
@@ -157,9 +178,9 @@ impl Opened {
             if wanted.goals.len() >= MOST_WANTED || !budget.take(1) {
                 break;
             }
-            if let Some(step) = self.steps.get(rank.index) {
-                if let Some(template) = library.template(step.number) {
-                    wanted.add(library.alloc, step, template, graph, budget)?;
+            if let Some(step) = self.steps.get(rank.index).copied() {
+                if let Some(template) = library.template(step.open.number) {
+                    wanted.add(self, step, &template, graph, budget)?;
                 }
             }
         }
@@ -169,10 +190,21 @@ impl Opened {
 
 impl Wanted {
     /// Adds the edges of the steps whose missing hypotheses were proved.
-    pub(crate) fn add_proved(self, graph: &mut Graph) -> Result<(), AllocError> {
-        for wanting in self.waiting {
+    pub(crate) fn add_proved(
+        &self,
+        alloc: Global,
+        opened: &Opened,
+        graph: &mut Graph,
+    ) -> Result<(), AllocError> {
+        for wanting in &self.waiting {
             if graph.is_known(wanting.missing) {
-                graph.add(wanting.goal, wanting.edge)?;
+                let nodes = opened.nodes_of(wanting.step);
+                let edge = Edge {
+                    label: wanting.label.0,
+                    children: children_of(alloc, nodes, wanting.missing)?,
+                    origin: Origin::Missing,
+                };
+                graph.add(wanting.step.open.goal, edge)?;
             }
         }
         Ok(())
@@ -181,37 +213,61 @@ impl Wanted {
     // Adds a step by a template.
     fn add(
         &mut self,
-        alloc: Global,
-        step: &Open,
+        opened: &Opened,
+        step: Kept,
         template: &Template,
         graph: &mut Graph,
         budget: &mut Budget,
     ) -> Result<(), AllocError>
         ensures { budget.new ≤ budget.old }
     {
-        let Some(essential) = template.essentials.get(step.essential) else {
+        let Some(essential) = template.essentials.get(step.open.essential).copied() else {
             return Ok(());
         };
-        let length = instance_length(graph, &essential.pieces, &step.nodes);
+        let pieces = template.pieces_of(essential);
+        let nodes = opened.nodes_of(step);
+        let length = instance_length(graph, pieces, nodes);
         if graph.expressions.symbols().saturating_add(length) > MOST_WANTED_SYMBOLS {
             return Ok(());
         }
-        let expression = instance(alloc, graph, &essential.pieces, &step.nodes, budget)?;
+        self.put_instance(graph, pieces, nodes, budget)?;
         let before = graph.expressions.len();
-        let missing = graph.node(&expression)?;
-        if missing == step.goal {
+        let missing = graph.node(&self.instance)?;
+        if missing == step.open.goal {
             return Ok(());
         }
-        self.want(missing, before, step.gain)?;
+        self.want(missing, before, step.open.gain)?;
         self.waiting.push(Wanting {
-            goal: step.goal,
+            step,
+            label: template.label,
             missing,
-            edge: Edge {
-                label: template.label.0,
-                children: children_of(alloc, &step.nodes, missing)?,
-                origin: Origin::Missing,
-            },
         })?;
+        Ok(())
+    }
+
+    // Makes the instance what the pieces say where these nodes meet the hypotheses.
+    fn put_instance(
+        &mut self,
+        graph: &Graph,
+        pieces: &[Piece],
+        nodes: &[Option<u32>],
+        budget: &mut Budget,
+    ) -> Result<(), AllocError>
+        ensures { budget.new ≤ budget.old }
+    {
+        self.instance.clear();
+        for piece in pieces {
+            match *piece {
+                Piece::Symbol(symbol) => self.instance.push(symbol)?,
+                Piece::Value(place) => {
+                    let value = value_at(graph, nodes, place);
+                    budget.take(value.len());
+                    if let [_, symbols @ ..] = value {
+                        self.instance.extend_from_slice(symbols)?;
+                    }
+                }
+            }
+        }
         Ok(())
     }
 
@@ -250,30 +306,4 @@ fn instance_length(graph: &Graph, pieces: &[Piece], nodes: &[Option<u32>]) -> us
         length = length.saturating_add(symbols);
     }
     length
-}
-
-// What the pieces say where these nodes meet the hypotheses.
-fn instance(
-    alloc: Global,
-    graph: &Graph,
-    pieces: &[Piece],
-    nodes: &[Option<u32>],
-    budget: &mut Budget,
-) -> Result<Vec<Sym>, AllocError>
-    ensures { budget.new ≤ budget.old }
-{
-    let mut expression = Vec::new(alloc);
-    for piece in pieces {
-        match *piece {
-            Piece::Symbol(symbol) => expression.push(symbol)?,
-            Piece::Value(place) => {
-                let value = value_at(graph, nodes, place);
-                budget.take(value.len());
-                if let [_, symbols @ ..] = value {
-                    expression.extend_from_slice(symbols)?;
-                }
-            }
-        }
-    }
-    Ok(expression)
 }

@@ -15,14 +15,9 @@ pub(crate) struct VariableStep {
     pub(crate) number: u32,
     /// The node to which it leads.
     pub(crate) to: u32,
-}
-
-/// A node of the trie of patterns.
-#[derive(Drop)]
-struct Node {
-    variables: Vec<VariableStep>,
-    /// The number of the pattern that ends here.
-    pattern: Option<u32>,
+    /// The index of the step by a variable from the same node that was made before it; `NOTHING`
+    /// where it is the first.
+    pub(crate) before: u32,
 }
 
 /// A pattern as an assertion has it.
@@ -39,8 +34,11 @@ pub(crate) struct Placed {
 #[derive(Drop)]
 pub(crate) struct Patterns {
     alloc: Global,
+    /// Each node notes the index of its last step by a variable.
     trie: Trie,
-    nodes: Vec<Node>,
+    variables: Vec<VariableStep>,
+    /// For each node, up to the greatest at which one ends, the number of the pattern.
+    ends: Vec<Option<u32>>,
     count: u32,
 }
 
@@ -50,7 +48,8 @@ impl Patterns {
         Patterns {
             alloc,
             trie: Trie::new(alloc, seed),
-            nodes: Vec::new(alloc),
+            variables: Vec::new(alloc),
+            ends: Vec::new(alloc),
             count: 0,
         }
     }
@@ -60,12 +59,19 @@ impl Patterns {
         self.count
     }
 
-    /// The steps from a node by variables; none from a node that isn't there.
-    pub(crate) fn variable_steps(&self, node: u32) -> &[VariableStep] {
-        match self.nodes.get(node as usize) {
-            Some(node) => &node.variables,
-            None => &[],
-        }
+    /// The last step from a node by a variable that was made.
+    pub(crate) fn last_variable(&self, node: u32) -> Option<VariableStep> {
+        self.variable(self.trie.note(node))
+    }
+
+    /// The step by a variable with an index.
+    pub(crate) fn variable(&self, index: u32) -> Option<VariableStep> {
+        self.variables.get(index as usize).copied()
+    }
+
+    /// How many steps by variables there are.
+    pub(crate) fn variables(&self) -> usize {
+        self.variables.len()
     }
 
     /// Where the step from a node by a symbol that is no variable leads.
@@ -75,10 +81,7 @@ impl Patterns {
 
     /// The number of the pattern that ends at a node.
     pub(crate) fn pattern_at(&self, node: u32) -> Option<u32> {
-        match self.nodes.get(node as usize) {
-            Some(node) => node.pattern,
-            None => None,
-        }
+        self.ends.get(node as usize).copied().flatten()
     }
 
     /// Enters the pattern that these pieces are, over these mandatory hypotheses.
@@ -91,78 +94,69 @@ impl Patterns {
         hypotheses: &[Hypothesis],
         pieces: &[Piece],
     ) -> Result<Placed, AllocError> {
-        if self.nodes.is_empty() {
-            self.add_node()?;
+        if self.trie.is_empty() {
+            self.trie.add_node()?;
         }
         let mut places = Vec::new(self.alloc);
         let mut node = ROOT;
         for piece in pieces {
             node = match *piece {
-                Piece::Symbol(symbol) => self.enter_symbol(node, symbol)?,
+                Piece::Symbol(symbol) => self.trie.enter(node, symbol)?,
                 Piece::Value(place) => {
                     let number = number_at(&mut places, place)?;
                     self.enter_variable(node, code_at(hypotheses, place), number)?
                 }
             };
         }
-        let pattern = self.end_at(node);
+        let pattern = self.end_at(node)?;
         Ok(Placed { pattern, places })
-    }
-
-    // Adds a node, and answers its number.
-    fn add_node(&mut self) -> Result<u32, AllocError> {
-        let number = next_number(self.nodes.len());
-        self.nodes.push(Node {
-            variables: Vec::new(self.alloc),
-            pattern: None,
-        })?;
-        Ok(number)
-    }
-
-    // The node to which the step from a node by a symbol leads.
-    fn enter_symbol(&mut self, node: u32, symbol: Sym) -> Result<u32, AllocError> {
-        if let Some(to) = self.trie.follow(node, symbol) {
-            return Ok(to);
-        }
-        let to = self.add_node()?;
-        self.trie.lead(node, symbol, to)?;
-        Ok(to)
     }
 
     // The node to which the step from a node by a variable leads.
     fn enter_variable(&mut self, node: u32, code: Sym, number: u32) -> Result<u32, AllocError> {
-        if let Some(to) = step_by(self.variable_steps(node), code, number) {
+        if let Some(to) = self.step_by(node, code, number) {
             return Ok(to);
         }
-        let to = self.add_node()?;
-        if let Some(node) = self.nodes.get_mut(node as usize) {
-            node.variables.push(VariableStep { code, number, to })?;
-        }
+        let to = self.trie.add_node()?;
+        let index = next_number(self.variables.len());
+        self.variables.push(VariableStep {
+            code,
+            number,
+            to,
+            before: self.trie.note(node),
+        })?;
+        self.trie.set_note(node, index);
         Ok(to)
     }
 
+    // Where the step from a node by a variable leads.
+    fn step_by(&self, node: u32, code: Sym, number: u32) -> Option<u32> {
+        let mut next = self.last_variable(node);
+        for _ in 0..self.variables.len() {
+            let step = next?;
+            if step.code == code && step.number == number {
+                return Some(step.to);
+            }
+            next = self.variable(step.before);
+        }
+        None
+    }
+
     // The number of the pattern that ends at a node, which gets one where none does.
-    fn end_at(&mut self, node: u32) -> u32 {
+    fn end_at(&mut self, node: u32) -> Result<u32, AllocError> {
         if let Some(pattern) = self.pattern_at(node) {
-            return pattern;
+            return Ok(pattern);
+        }
+        for _ in self.ends.len()..=node as usize {
+            self.ends.push(None)?;
         }
         let pattern = self.count;
-        if let Some(node) = self.nodes.get_mut(node as usize) {
-            node.pattern = Some(pattern);
+        if let Some(end) = self.ends.get_mut(node as usize) {
+            *end = Some(pattern);
         }
         self.count = pattern.saturating_add(1);
-        pattern
+        Ok(pattern)
     }
-}
-
-// Where the one of these steps that is by a variable leads.
-fn step_by(steps: &[VariableStep], code: Sym, number: u32) -> Option<u32> {
-    for step in steps {
-        if step.code == code && step.number == number {
-            return Some(step.to);
-        }
-    }
-    None
 }
 
 // The type code of the `$f` at a place among hypotheses. Each variable of an assertion has a `$f`

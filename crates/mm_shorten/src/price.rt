@@ -1,6 +1,8 @@
 //! What steps and labels cost.
 
 use crate::graph::{Edge, Graph};
+use crate::range::{Range, part};
+use crate::trie::next_number;
 use indexmap::IndexSet;
 use mm_base::Seed;
 use mm_frame::{Book, Hypothesis, LabelId};
@@ -14,9 +16,11 @@ pub const BYTE: u64 = 10;
 pub(crate) struct Price {
     /// What a step costs.
     pub(crate) step: u64,
-    /// For each node and each of its edges the number of its label; for a hypothesis that of its
-    /// own.
-    numbers: Vec<Vec<u32>>,
+    /// For each node, one after the other, and each of its edges the number of its label; for a
+    /// hypothesis that of its own.
+    numbers: Vec<u32>,
+    /// For each node where its numbers stand.
+    ranges: Vec<Range>,
     /// For each number of a label what it costs.
     labels: Vec<u64>,
 }
@@ -60,13 +64,12 @@ impl Labels {
         Ok(u32::try_from(index).unwrap_or(u32::MAX))
     }
 
-    // The numbers of the edges' labels.
-    fn numbers(&mut self, alloc: Global, edges: &[Edge]) -> Result<Vec<u32>, AllocError> {
-        let mut numbers = Vec::with_capacity(alloc, edges.len())?;
+    // Adds the numbers of the edges' labels.
+    fn add_numbers(&mut self, edges: &[Edge], numbers: &mut Vec<u32>) -> Result<(), AllocError> {
         for edge in edges {
             numbers.push(self.number(edge.label)?)?;
         }
-        Ok(numbers)
+        Ok(())
     }
 
     // What each label costs, where so many are of mandatory hypotheses, which aren't listed.
@@ -98,17 +101,22 @@ impl Price {
         step: u64,
     ) -> Result<Price, AllocError> {
         let mut labels = Labels::new(alloc, book.seed(), hypotheses)?;
-        let mut numbers = Vec::with_capacity(alloc, graph.edges.len())?;
+        let mut numbers = Vec::new(alloc);
+        let mut ranges = Vec::with_capacity(alloc, graph.edges.len())?;
         for (edges, hypothesis) in graph.edges.iter().zip(&graph.hypotheses) {
-            numbers.push(match hypothesis {
-                Some(label) => Vec::from_slice(alloc, &[labels.number(*label)?])?,
-                None => labels.numbers(alloc, edges)?,
-            })?;
+            let start = next_number(numbers.len());
+            match hypothesis {
+                Some(label) => numbers.push(labels.number(*label)?)?,
+                None => labels.add_numbers(edges, &mut numbers)?,
+            }
+            let end = next_number(numbers.len());
+            ranges.push(Range { start, end })?;
         }
         let labels = labels.costs(alloc, book, hypotheses.len())?;
         Ok(Price {
             step,
             numbers,
+            ranges,
             labels,
         })
     }
@@ -118,6 +126,7 @@ impl Price {
         Price {
             step: 1,
             numbers: Vec::new(alloc),
+            ranges: Vec::new(alloc),
             labels: Vec::new(alloc),
         }
     }
@@ -129,8 +138,10 @@ impl Price {
 
     /// The number of the label of a node's edge, or of the hypothesis that the node is.
     pub(crate) fn label(&self, node: u32, edge: Option<u32>) -> Option<u32> {
-        let numbers = self.numbers.get(node as usize)?;
-        numbers.get(edge.unwrap_or(0) as usize).copied()
+        let range = self.ranges.get(node as usize).copied()?;
+        part(&self.numbers, range)
+            .get(edge.unwrap_or(0) as usize)
+            .copied()
     }
 
     /// What the label with a number costs.

@@ -1,5 +1,6 @@
 //! What assertions depend on, as sets of bits.
 
+use crate::range::{Range, part};
 use crate::trie::next_number;
 use mm_frame::LabelId;
 use std::alloc::{AllocError, Global};
@@ -21,13 +22,6 @@ pub(crate) struct Word {
     /// Which word it is.
     index: u32,
     bits: u32,
-}
-
-// Where the words of a label stand.
-#[derive(Clone, Copy)]
-struct Range {
-    start: usize,
-    end: usize,
 }
 
 /// For each label the set of what it rests on: of the assertions that rest on themselves, by their
@@ -57,11 +51,7 @@ impl Grounds {
         let Some(range) = self.ranges.get(label.0 as usize).copied() else {
             return &[];
         };
-        if range.start <= range.end && range.end <= self.words.len() {
-            &self.words[range.start..range.end]
-        } else {
-            &[]
-        }
+        part(&self.words, range)
     }
 
     /// What a proof depends on that uses these assertions, with all words.
@@ -76,12 +66,12 @@ impl Grounds {
 
     /// Enters what an assertion depends on.
     pub(crate) fn enter(&mut self, label: LabelId, rests: Rests) -> Result<(), AllocError> {
-        let start = self.words.len();
+        let start = next_number(self.words.len());
         match rests {
             Rests::Itself => self.add_next()?,
             Rests::Uses(uses) => self.add_union(uses)?,
         }
-        let end = self.words.len();
+        let end = next_number(self.words.len());
         self.put(label, Range { start, end })
     }
 

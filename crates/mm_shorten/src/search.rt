@@ -8,9 +8,9 @@ use crate::edges::{Finds, Goals, Search, Theorem};
 use crate::goals::Goal;
 use crate::graph::Graph;
 use crate::matches::Matches;
-use crate::syntax::Syntax;
+use crate::syntax::{Spans, Syntax};
 use crate::trie::next_number;
-use crate::walk::{Conclusion, add_rows};
+use crate::walk::{Conclusion, Walk, add_rows};
 use mm_frame::Sym;
 use std::alloc::AllocError;
 
@@ -40,11 +40,14 @@ pub enum Reach {
     OneMissing,
 }
 
-// What is known of a proof: the syntax that it builds, and the rows of its conclusions.
+// What is known of a proof: the syntax that it builds, and the rows of its conclusions; and lists
+// by which rows are found, which are used again for each conclusion.
 #[derive(Drop)]
 struct Known {
     syntax: Syntax,
     matches: Matches,
+    spans: Spans,
+    walk: Walk,
 }
 
 impl Library {
@@ -81,7 +84,12 @@ impl Library {
     {
         let syntax = Syntax::of_graph(self.alloc, self.seed, graph, code, budget)?;
         let matches = Matches::new(self.alloc, self.seed)?;
-        let mut known = Known { syntax, matches };
+        let mut known = Known {
+            syntax,
+            matches,
+            spans: Spans::new(self.alloc),
+            walk: Walk::new(self.alloc),
+        };
         match self.list_known(graph, code, &mut known, budget) {
             Ok(()) => Ok(known),
             Err(error) => {
@@ -101,7 +109,7 @@ impl Library {
     ) -> Result<(), AllocError>
         ensures { budget.new ≤ budget.old }
     {
-        self.match_known(graph, code, &known.syntax, &mut known.matches, budget)?;
+        self.match_known(graph, code, known, budget)?;
         known.matches.list_all()
     }
 
@@ -118,7 +126,7 @@ impl Library {
         ensures { budget.new ≤ budget.old }
     {
         let grounds = self.grounds.union(theorem.uses)?;
-        let goals = Goals::new(self.alloc, self.seed, goals)?;
+        let goals = Goals::new(self.alloc, goals)?;
         let search = Search {
             library: self,
             theorem,
@@ -137,8 +145,7 @@ impl Library {
         &self,
         graph: &Graph,
         code: Sym,
-        syntax: &Syntax,
-        matches: &mut Matches,
+        known: &mut Known,
         budget: &mut Budget,
     ) -> Result<(), AllocError>
         ensures { budget.new ≤ budget.old }
@@ -146,7 +153,7 @@ impl Library {
         for node in 0..graph.expressions.len() {
             let node = next_number(node);
             if graph.expressions.get(node).first() == Some(&code) && graph.is_known(node) {
-                self.match_node(graph, node, syntax, matches, budget)?;
+                self.match_node(graph, node, known, budget)?;
             }
         }
         Ok(())
@@ -157,14 +164,13 @@ impl Library {
         &self,
         graph: &Graph,
         goals: &[Goal],
-        syntax: &Syntax,
-        matches: &mut Matches,
+        known: &mut Known,
         budget: &mut Budget,
     ) -> Result<(), AllocError>
         ensures { budget.new ≤ budget.old }
     {
         for goal in goals {
-            self.match_node(graph, goal.node, syntax, matches, budget)?;
+            self.match_node(graph, goal.node, known, budget)?;
         }
         Ok(())
     }
@@ -174,8 +180,7 @@ impl Library {
         &self,
         graph: &Graph,
         node: u32,
-        syntax: &Syntax,
-        matches: &mut Matches,
+        known: &mut Known,
         budget: &mut Budget,
     ) -> Result<(), AllocError>
         ensures { budget.new ≤ budget.old }
@@ -184,14 +189,16 @@ impl Library {
             return Ok(());
         }
         let expression = graph.expressions.get(node);
-        let spans = syntax.spans_in(expression, budget)?;
+        known
+            .syntax
+            .put_spans(expression, &mut known.spans, budget)?;
         let conclusion = Conclusion { node, expression };
         add_rows(
-            self.alloc,
+            &mut known.walk,
             &self.patterns,
             conclusion,
-            &spans,
-            matches,
+            &known.spans,
+            &mut known.matches,
             budget,
         )
     }
@@ -228,13 +235,12 @@ impl<'s, 't, 'b, 'a> Search<'s, 't, 'b, 'a> {
         ensures { budget.new ≤ budget.old }
     {
         let wanted = finds.opened.wanted(self.library, graph, budget)?;
-        match self.run_wanted(&wanted.goals, graph, known, finds, budget) {
-            Ok(()) => wanted.add_proved(graph),
-            Err(error) => {
-                drop(wanted);
-                Err(error)
-            }
-        }
+        let answer = match self.run_wanted(&wanted.goals, graph, known, finds, budget) {
+            Ok(()) => wanted.add_proved(self.library.alloc, &finds.opened, graph),
+            Err(error) => Err(error),
+        };
+        drop(wanted);
+        answer
     }
 
     // Adds the edges of the steps that prove what is wanted.
@@ -250,8 +256,8 @@ impl<'s, 't, 'b, 'a> Search<'s, 't, 'b, 'a> {
     {
         let library = self.library;
         let start = known.matches.len();
-        library.match_wanted(graph, wanted, &known.syntax, &mut known.matches, budget)?;
-        let goals = Goals::new(library.alloc, library.seed, wanted)?;
+        library.match_wanted(graph, wanted, known, budget)?;
+        let goals = Goals::new(library.alloc, wanted)?;
         let search = Search {
             goals: &goals,
             may_lack: false,

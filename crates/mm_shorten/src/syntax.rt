@@ -6,7 +6,7 @@ use crate::budget::Budget;
 use crate::graph::Graph;
 use crate::room::has_room;
 use crate::step_table::ROOT;
-use crate::trie::{Trie, next_number};
+use crate::trie::{NOTHING, Trie, next_number};
 use mm_base::Seed;
 use mm_frame::Sym;
 use std::alloc::{AllocError, Global};
@@ -16,6 +16,8 @@ use std::alloc::{AllocError, Global};
 struct Built {
     code: Sym,
     conclusion: u32,
+    /// The index of the next that ends at the same node; `NOTHING` where it is the last.
+    next: u32,
 }
 
 /// Syntax that stands somewhere in an expression.
@@ -33,10 +35,9 @@ pub(crate) struct Span {
 /// in a trie of what follows the type code.
 #[derive(Drop)]
 pub(crate) struct Syntax {
-    alloc: Global,
+    /// Each node notes the index of the first syntax that ends there.
     trie: Trie,
-    /// For each node of the trie the syntax that ends there.
-    ends: Vec<Vec<Built>>,
+    built: Vec<Built>,
 }
 
 /// The syntax in an expression, by where it begins.
@@ -48,6 +49,14 @@ pub(crate) struct Spans {
 }
 
 impl Spans {
+    /// Those of no expression. It takes no memory.
+    pub(crate) fn new(alloc: Global) -> Spans {
+        Spans {
+            spans: Vec::new(alloc),
+            starts: Vec::new(alloc),
+        }
+    }
+
     /// Those that begin at a place, shorter ones first.
     pub(crate) fn at(&self, place: usize) -> &[Span] {
         let Some(start) = self.starts.get(place).copied() else {
@@ -77,11 +86,10 @@ impl Syntax {
         ensures { budget.new ≤ budget.old }
     {
         let mut syntax = Syntax {
-            alloc,
             trie: Trie::new(alloc, seed),
-            ends: Vec::new(alloc),
+            built: Vec::new(alloc),
         };
-        syntax.add_node()?;
+        syntax.trie.add_node()?;
         for conclusion in 0..graph.expressions.len() {
             let conclusion = next_number(conclusion);
             if graph.is_known(conclusion) {
@@ -91,30 +99,24 @@ impl Syntax {
         Ok(syntax)
     }
 
-    /// The syntax in an expression behind its type code.
-    pub(crate) fn spans_in(
+    /// Makes the spans those of the syntax in an expression behind its type code.
+    pub(crate) fn put_spans(
         &self,
         expression: &[Sym],
+        spans: &mut Spans,
         budget: &mut Budget,
-    ) -> Result<Spans, AllocError>
+    ) -> Result<(), AllocError>
         ensures { budget.new ≤ budget.old }
     {
-        let mut spans = Vec::new(self.alloc);
-        let mut starts = Vec::with_capacity(self.alloc, expression.len())?;
+        spans.spans.clear();
+        spans.starts.clear();
         for start in 0..expression.len() {
-            starts.push(spans.len())?;
+            spans.starts.push(spans.spans.len())?;
             if start > 0 {
-                self.add_spans(expression, start, &mut spans, budget)?;
+                self.add_spans(expression, start, &mut spans.spans, budget)?;
             }
         }
-        Ok(Spans { spans, starts })
-    }
-
-    // Adds a node, and answers its number.
-    fn add_node(&mut self) -> Result<u32, AllocError> {
-        let number = next_number(self.ends.len());
-        self.ends.push(Vec::new(self.alloc))?;
-        Ok(number)
+        Ok(())
     }
 
     // Enters a conclusion, unless it has the type code of what is proved, nothing is left of the
@@ -134,31 +136,43 @@ impl Syntax {
         if *code == proved || symbols.is_empty() || budget.is_used_up() {
             return Ok(());
         }
-        if !has_room(self.ends.len().saturating_add(symbols.len())) {
+        if !has_room(self.trie.len().saturating_add(symbols.len())) {
             return Ok(());
         }
         budget.take(symbols.len());
         let mut node = ROOT;
         for symbol in symbols {
-            node = self.enter_symbol(node, *symbol)?;
+            node = self.trie.enter(node, *symbol)?;
         }
-        if let Some(ends) = self.ends.get_mut(node as usize) {
-            ends.push(Built {
-                code: *code,
-                conclusion,
-            })?;
+        self.end_at(node, *code, conclusion)
+    }
+
+    // Adds the syntax of a conclusion behind what ends at the same node.
+    fn end_at(&mut self, node: u32, code: Sym, conclusion: u32) -> Result<(), AllocError> {
+        let index = next_number(self.built.len());
+        let last = self.last_at(node);
+        self.built.push(Built {
+            code,
+            conclusion,
+            next: NOTHING,
+        })?;
+        match self.built.get_mut(last as usize) {
+            Some(built) if last != index => built.next = index,
+            _ => self.trie.set_note(node, index),
         }
         Ok(())
     }
 
-    // The node to which the step from a node by a symbol leads.
-    fn enter_symbol(&mut self, node: u32, symbol: Sym) -> Result<u32, AllocError> {
-        if let Some(to) = self.trie.follow(node, symbol) {
-            return Ok(to);
+    // The index of the last syntax that ends at a node.
+    fn last_at(&self, node: u32) -> u32 {
+        let mut last = self.trie.note(node);
+        for _ in 0..self.built.len() {
+            match self.built.get(last as usize) {
+                Some(built) if built.next != NOTHING => last = built.next,
+                _ => break,
+            }
         }
-        let to = self.add_node()?;
-        self.trie.lead(node, symbol, to)?;
-        Ok(to)
+        last
     }
 
     // Adds the syntax that begins at a place of an expression.
@@ -187,15 +201,17 @@ impl Syntax {
 
     // Adds the syntax that ends at a node of the trie, and at a place.
     fn add_ends(&self, node: u32, end: usize, spans: &mut Vec<Span>) -> Result<(), AllocError> {
-        let Some(ends) = self.ends.get(node as usize) else {
-            return Ok(());
-        };
-        for built in ends {
+        let mut next = self.trie.note(node);
+        for _ in 0..self.built.len() {
+            let Some(built) = self.built.get(next as usize) else {
+                break;
+            };
             spans.push(Span {
                 code: built.code,
                 end,
                 conclusion: built.conclusion,
             })?;
+            next = built.next;
         }
         Ok(())
     }

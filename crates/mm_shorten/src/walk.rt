@@ -24,28 +24,34 @@ struct Place {
     binding: Option<u32>,
 }
 
-// A walk through the trie of patterns along an expression: the places that are left to go on from,
-// and the bindings on the way to the present one.
+/// A walk through the trie of patterns along an expression: the places that are left to go on from,
+/// and the bindings on the way to the present one. Its lists are used again for the next walk.
 #[derive(Drop)]
-struct Walk {
+pub(crate) struct Walk {
     places: Vec<Place>,
     bindings: Vec<u32>,
 }
 
 impl Walk {
-    // A walk that begins at the root.
-    fn new(alloc: Global) -> Result<Walk, AllocError> {
-        let mut places = Vec::new(alloc);
-        places.push(Place {
+    /// A walk that doesn't begin yet. It takes no memory.
+    pub(crate) fn new(alloc: Global) -> Walk {
+        Walk {
+            places: Vec::new(alloc),
+            bindings: Vec::new(alloc),
+        }
+    }
+
+    // Begins at the root.
+    fn begin(&mut self) -> Result<(), AllocError> {
+        self.places.clear();
+        self.bindings.clear();
+        self.places.push(Place {
             node: ROOT,
             at: 0,
             bound: 0,
             binding: None,
         })?;
-        Ok(Walk {
-            places,
-            bindings: Vec::new(alloc),
-        })
+        Ok(())
     }
 
     // The next place to go on from.
@@ -106,8 +112,13 @@ impl Walk {
         place: Place,
         spans: &Spans,
     ) -> Result<(), AllocError> {
-        for step in patterns.variable_steps(place.node).iter().rev() {
+        let mut next = patterns.last_variable(place.node);
+        for _ in 0..patterns.variables() {
+            let Some(step) = next else {
+                break;
+            };
             self.go_by_spans(step.to, step.code, step.number, spans.at(place.at))?;
+            next = patterns.variable(step.before);
         }
         Ok(())
     }
@@ -139,7 +150,7 @@ pub(crate) struct Conclusion<'e> {
 /// Adds a row for each way in which a conclusion matches a pattern, as far as the budget goes. Its
 /// syntax is handed in.
 pub(crate) fn add_rows(
-    alloc: Global,
+    walk: &mut Walk,
     patterns: &Patterns,
     conclusion: Conclusion,
     spans: &Spans,
@@ -148,7 +159,7 @@ pub(crate) fn add_rows(
 ) -> Result<(), AllocError>
     ensures { budget.new ≤ budget.old }
 {
-    let mut walk = Walk::new(alloc)?;
+    walk.begin()?;
     for _ in 0..budget.left() {
         let Some(place) = walk.next()? else {
             break;

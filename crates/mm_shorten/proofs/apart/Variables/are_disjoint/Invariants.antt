@@ -2,5 +2,5 @@
 use Rattle.std.proofs.Common.{◌≤◌}
 use Rattle.mm_shorten.proofs.apart.Variables.are_disjoint.Given as goal
 
-abbrev pub invariant-loop-variable : goal.invariant-loop-variable
-invariant-loop-variable l = l.budget ≤ l.initial.budget
+abbrev pub invariant-loop-at : goal.invariant-loop-at
+invariant-loop-at l = l.budget ≤ l.initial.budget

@@ -2,5 +2,5 @@
 use Rattle.std.proofs.Common.{◌≤◌}
 use Rattle.mm_shorten.proofs.matches.Matches.make.Given as goal
 
-abbrev pub invariant-loop-at : goal.invariant-loop-at
-invariant-loop-at l = l.budget ≤ l.initial.budget
+abbrev pub invariant-loop : goal.invariant-loop
+invariant-loop l = l.budget ≤ l.initial.budget
