@@ -192,7 +192,7 @@ other_question question.Letters files label text status other told = told
 other_question (question.Uses essential) files label text status other told = told
 other_question (question.Form form whole) files label text status other told = told
 other_question (question.Same proof) files label text status other told = told
-other_question question.Minimized files label text status other told = told
+other_question (question.Minimized whole) files label text status other told = told
 
 -- the answer over the statements of the files that are kept
 pub users_read : (all : Bool) (files : List PlainFile) (answer : Result Conclusion CheckFault)

@@ -1,7 +1,6 @@
 -- Where the moves of a proof stop, and the lines of the steps before.
 use Rattle.std.proofs.Common.{◌≡◌, ℕ, ◌+◌, List, [], ◌∷◌, ◌++◌, length, take, Bool, true, false}
 use Rattle.std.proofs.Common.{Option, Some, None, inl, inr, refl, sym, ap, subst, ◌∙◌, append-nil}
-use Rattle.std.specs.List.{AllZip}
 use Rattle.mm_base.specs.Statement.{plain_statement}
 use Rattle.mm_text.specs.Files.{PlainFile}
 use Rattle.mm_frame.specs.Sentence.{Sentence, sentence_of}
@@ -121,26 +120,17 @@ module _ (st : List Sentence) (index : ℕ) (s : Sentence) (tokens : List (List 
       rw halted.steps (moves_fault before s tokens moves b open_one said rule
       (steps_in there.earlier + 1) fault.0 fault.1)
 
-  pub halt_shown : (telling : Telling) (files : List PlainFile) (placed : List PlainToken)
-      → tokens ≡ texts_of placed → (text : List ℕ)
-      → IsTextOfMoves telling files before placed halted.there.earlier text
-      → AreStepsBefore telling files before s placed (halt.steps + 1) text
-  halt_shown telling files placed same text told =
-      let there = halted.there in
-      let judged : SayMoves before s (judged_tokens (texts_of placed))
-      (there.earlier ++ there.left) =
-      subst (λ (ts : List (List ℕ)).
-      SayMoves before s (judged_tokens ts) (there.earlier ++ there.left)) same
-      (subst (λ (ms : List (Move (List ℕ))). SayMoves before s (judged_tokens tokens) ms) there.parts
-      (subst (λ (c : Bool). SayMoves before s (judged_where c tokens) moves) (sym open_one)
-      said.1)) in
-      inr (
-        there.earlier,
-        there.left,
-        judged,
-        ap (λ (n : ℕ). n + 1) halted.steps,
-        told,
-      )
+  -- the moves before are those that the tokens say before the step
+  pub halt_before : SayMoves before s (judged_tokens tokens)
+      (halted.there.earlier ++ halted.there.left)
+      × (halt.steps + 1 ≡ steps_in halted.there.earlier + 1)
+  halt_before = (
+    subst (λ (ms : List (Move (List ℕ))). SayMoves before s (judged_tokens tokens) ms)
+        halted.there.parts
+        (subst (λ (c : Bool). SayMoves before s (judged_where c tokens) moves) (sym open_one)
+        said.1),
+    ap (λ (n : ℕ). n + 1) halted.steps,
+  )
 
   -- all passed
   passed_well : halt.rule ≡ None → (moves ≡ halted.there.earlier)
@@ -160,16 +150,9 @@ module _ (st : List Sentence) (index : ℕ) (s : Sentence) (tokens : List (List 
       let well = passed_well none in
       moves_tried before s tokens moves b open_one said well.1 well.2
 
-  pub halt_listed : halt.rule ≡ None → (telling : Telling) (files : List PlainFile)
-      (placed : List PlainToken) (text : List ℕ)
-      → IsTextOfMoves telling files before placed halted.there.earlier text
-      → TellsMoves telling files before s placed (judged_where b tokens) text
-  halt_listed none telling files placed text told = (
-    moves,
-    said.1,
-    subst (λ (ms : List (Move (List ℕ))). IsTextOfMoves telling files before placed ms text)
-        (sym (passed_well none).0) told,
-  )
+  pub halt_all : halt.rule ≡ None → SayMoves before s (judged_where b tokens) halted.there.earlier
+  halt_all none =
+      subst (SayMoves before s (judged_where b tokens)) (passed_well none).0 said.1
 
 -- ---- of the `$p` with a number
 
@@ -206,38 +189,67 @@ module _ (st : List Sentence) (id : ℕ) (tokens : List (List ℕ)) (steps : Rea
       (halt_tried st index s tokens (said index s number).1 steps.prefix halt (sym prefix)
       (judged index s number) (there index s number) none)
 
+  -- what is told of the moves before the place
+  module _ (P : List Sentence → List (Move (List ℕ)) → Type 0)
+      (told : OfMoves st id steps.moves (λ index s moves.
+      P (take index st) (take halt.passed moves))) where
+    told_there : (index : ℕ) (s : Sentence) (number : IsProofNumber st id index s)
+        → P (take index st) (there index s number).there.earlier
+    told_there index s number =
+        let own = said index s number in
+        let h = there index s number in
+        subst (P (take index st))
+        (first_are (limit_of Lenient) st (take index st) s steps.prefix own.1 halt h)
+        (told index s own.1 number own.3)
+
+    -- it is told of those that the tokens say before the step
+    pub known_before : OfProof st id (λ index s.
+        (moves : List (Move (List ℕ))) × (left : List (Move (List ℕ)))
+        × SayMoves (take index st) s (judged_tokens tokens) (moves ++ left)
+        × (halt.steps + 1 ≡ steps_in moves + 1) × P (take index st) moves)
+    known_before index s number =
+        let h = (there index s number).there in
+        let are = halt_before st index s tokens (said index s number).1 steps.prefix halt
+        (sym prefix) (judged index s number) (there index s number) in
+        (h.earlier, h.left, are.0, are.1, told_there index s number)
+
+    -- where all moves pass, of all that the tokens say
+    pub known_all : halt.rule ≡ None → (b : Bool) → steps.prefix ≡ b
+        → OfProof st id (λ index s. (moves : List (Move (List ℕ)))
+        × SayMoves (take index st) s (judged_where b tokens) moves × P (take index st) moves)
+    known_all none b is index s number = (
+      (there index s number).there.earlier,
+      subst (λ (c : Bool). SayMoves (take index st) s (judged_where c tokens)
+          (there index s number).there.earlier) is
+          (halt_all st index s tokens (said index s number).1 steps.prefix halt (sym prefix)
+          (judged index s number) (there index s number) none),
+      told_there index s number,
+    )
+
   module _ (telling : Telling) (files : List PlainFile) (placed : List PlainToken)
       (texts : tokens ≡ texts_of placed) (text : List ℕ)
       (told : OfMoves st id steps.moves (λ index s moves.
       IsTextOfMoves telling files (take index st) placed (take halt.passed moves) text)) where
-    -- the text is that of the moves before the place
-    told_there : (index : ℕ) (s : Sentence) (number : IsProofNumber st id index s)
-        → IsTextOfMoves telling files (take index st) placed
-        (there index s number).there.earlier text
-    told_there index s number =
-        let own = said index s number in
-        let h = there index s number in
-        subst (λ (ms : List (Move (List ℕ))).
-        IsTextOfMoves telling files (take index st) placed ms text)
-        (first_are (limit_of Lenient) st (take index st) s steps.prefix own.1 halt h)
-        (told index s own.1 number own.3)
+    abbrev TextOf : List Sentence → List (Move (List ℕ)) → Type 0
+    TextOf before moves = IsTextOfMoves telling files before placed moves text
 
     pub known_shown : OfProof st id (λ index s.
         AreStepsBefore telling files (take index st) s placed (halt.steps + 1) text)
     known_shown index s number =
-        halt_shown st index s tokens (said index s number).1 steps.prefix halt (sym prefix)
-        (judged index s number) (there index s number) telling files placed texts text
-        (told_there index s number)
+        let of = known_before TextOf told index s number in
+        inr (
+          of.0,
+          of.1,
+          subst (λ (ts : List (List ℕ)).
+              SayMoves (take index st) s (judged_tokens ts) (of.0 ++ of.1)) texts of.2,
+          of.3,
+          of.4,
+        )
 
     pub known_listed : halt.rule ≡ None → (b : Bool) → steps.prefix ≡ b
         → OfProof st id (λ index s.
         TellsMoves telling files (take index st) s placed (judged_where b tokens) text)
-    known_listed none b is index s number =
-        subst (λ (c : Bool).
-        TellsMoves telling files (take index st) s placed (judged_where c tokens) text) is
-        (halt_listed st index s tokens (said index s number).1 steps.prefix halt (sym prefix)
-        (judged index s number) (there index s number) none telling files placed text
-        (told_there index s number))
+    known_listed none b is index s number = known_all TextOf told none b is index s number
 
 -- ---- the theorem that was reached
 

@@ -2,4 +2,5 @@ pub mod AlikeReplies
 pub mod KnownSteps
 pub mod AnswersTold
 pub mod OwnProofs
+pub mod ToldComments
 pub mod ToldTheorems

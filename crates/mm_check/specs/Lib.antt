@@ -5,3 +5,4 @@ pub mod Alike
 pub mod Alone
 pub mod AloneLaws
 pub mod Told
+pub mod KnownNormal

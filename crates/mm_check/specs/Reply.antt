@@ -1,6 +1,6 @@
 -- The reply to a command: its text and its status, which are this project's own.
-use Rattle.std.specs.Prelude.{◌≡◌, ℕ, ◌<◌, ◌≤◌, List, [], ◌∷◌, ◌++◌, map, length, Option}
-use Rattle.std.specs.Prelude.{Bool, true, false, None}
+use Rattle.std.specs.Prelude.{◌≡◌, ℕ, ◌+◌, ◌<◌, ◌≤◌, List, [], ◌∷◌, ◌++◌, map, length, Option}
+use Rattle.std.specs.Prelude.{Bool, true, false, None, slice_range}
 use Rattle.std.specs.Prelude.{◌⊎◌, codes}
 use Rattle.std.specs.List.{AllByRecursion}
 use Rattle.std.specs.Io.KnownBytes.{Appends}
@@ -9,6 +9,7 @@ use Rattle.mm_base.specs.Statement.{PlainStatement}
 use Rattle.mm_code.specs.Layout.{texts}
 use Rattle.mm_text.specs.Files.{PlainFile}
 use Rattle.mm_text.specs.Device.{AppendsBeginning}
+use Rattle.mm_text.specs.Remarks.{IsCommentBefore}
 use Rattle.mm_frame.specs.Sentence.{Sentence, sentence_of}
 use Rattle.mm_step.specs.declared.fault.ProofRule.{ProofRule}
 use Rattle.mm_proof.specs.CheckedPrefix.{checked_prefix}
@@ -32,7 +33,7 @@ use Rattle.mm_find.specs.Reply.{IsFindReply, query_for}
 use Rattle.mm_verdict.specs.declared.question.Question.{Question}
 use Rattle.mm_verdict.specs.declared.question.Question.TheVariants as question
 use Rattle.mm_verdict.specs.declared.question.LoneQuestion.{LoneQuestion}
-use Rattle.mm_verdict.specs.declared.question.LoneQuestion.TheVariants.{Known, Try}
+use Rattle.mm_verdict.specs.declared.question.LoneQuestion.TheVariants.{Known, KnownNormal, Try}
 use Rattle.mm_verdict.specs.declared.question.Telling.{Telling}
 use Rattle.mm_verdict.specs.declared.question.Telling.TheVariants as telling
 use Rattle.mm_verdict.specs.declared.question.WholeQuestion.{WholeQuestion}
@@ -45,9 +46,10 @@ use Rattle.mm_axioms.specs.Essential.{IsEssentialReport}
 use Rattle.mm_rules.specs.Rests.{IsAskFault, IsReport}
 use Rattle.mm_verdict.specs.Alone.{IsRefusedBefore, IsNoTheorem, IsReadTo, IsTheoremAt}
 use Rattle.mm_check.specs.Alone.{AreStepsBefore}
+use Rattle.mm_check.specs.KnownNormal.{IsKnownNormalReply}
 use Rattle.mm_check.specs.Told.{TellsMoves, TellsProof}
 use Rattle.mm_facts.specs.Explained.{Detail, IsTokensFault, AreDetails, AreLeftOver}
-use Rattle.mm_render.specs.Shorter.{IsMinimized}
+use Rattle.mm_render.specs.Shorter.{IsMinimized, home_bytes}
 use Rattle.mm_render.specs.Shown.{ShowsProof}
 use Rattle.mm_render.specs.ShownUses.{ShowsUses}
 use Rattle.mm_verdict.specs.declared.form.Form.{Form}
@@ -59,7 +61,7 @@ use Rattle.mm_render.specs.Saved.{IsSaved, FitsSaved, IsFormFault, IsSaveFault}
 use Rattle.mm_verdict.specs.Stated.{TellsStatement}
 use Rattle.mm_save.specs.AllSaved.{IsAllSaved, IsFirstTooLong, IsAllSaveFault}
 use Rattle.mm_minimize.specs.AllShorter.{IsAllShortened, IsAllShorterFault, ShorterLine}
-use Rattle.mm_minimize.specs.AllShorter.{AreShorterLines, shorter_text}
+use Rattle.mm_minimize.specs.AllShorter.{AreShorterLines, IsOneShortened, shorter_text}
 use Rattle.mm_lemmas.specs.Told.{ListsLemmas}
 use Rattle.mm_rules.specs.Verdict.{PlainRefusal, Verdict, Load, Refused, Incomplete, Yes}
 use Rattle.mm_rules.specs.Verdict.{HasVerdict, AreAccepted, labels_of, proof_of, sentences}
@@ -179,6 +181,15 @@ IsFormTextFault true wanted files statements label fault =
     IsSaveFault wanted files statements label fault
 IsFormTextFault false wanted files statements label fault = IsFormFault wanted statements label fault
 
+-- a shorter proof of the theorem with a label, or its own small one; or the bytes of its whole
+-- file, with the shorter proof or as they are
+abbrev pub IsMinimizedText : (whole : Bool) → Profile → List PlainFile → List PlainStatement
+    → (label : List ℕ) → List ℕ → Type 0
+IsMinimizedText true profile files statements label text =
+    IsOneShortened profile files statements label text
+IsMinimizedText false profile files statements label text =
+    IsMinimized profile files statements label text
+
 -- the line and the status that tell whether two proofs are the same
 abbrev pub same_text : Bool → List ℕ
 same_text true = line_with (codes "same") []
@@ -221,9 +232,9 @@ IsAnswerTo profile (question.Same proof) files label statements text status =
 IsAnswerTo profile (question.Users all) files label statements text status =
     IsTextReply (ListsUsers all statements label) (IsAssertionFault statements label) label text
     status
-IsAnswerTo profile question.Minimized files label statements text status =
-    IsTextReply (IsMinimized profile files statements label) (IsAskFault statements label) label
-    text status
+IsAnswerTo profile (question.Minimized whole) files label statements text status =
+    IsTextReply (IsMinimizedText whole profile files statements label)
+    (IsAskFault statements label) label text status
 
 -- the reply to the question for the file with a number, in which each proof is replaced that became
 -- shorter: the bytes of the file, and nothing else; or the name of the file, where the files would
@@ -374,12 +385,14 @@ IsKnownReply telling files before s text status =
     ⊎ (IsCheckedPrefix telling files (sentences before) (sentence_of s) s.proof text status
     ⊎ IsKnownFault telling files before s text status)
 
--- the answer about the theorem after those before it
-abbrev pub IsLoneAnswer : LoneQuestion → List PlainFile → (before : List PlainStatement)
-    → PlainStatement → List ℕ → ℕ → Type 0
-IsLoneAnswer (Known telling) files before s text status =
+-- the answer about the theorem with the label after those before it
+abbrev pub IsLoneAnswer : LoneQuestion → List PlainFile → (label : List ℕ)
+    → (before : List PlainStatement) → PlainStatement → List ℕ → ℕ → Type 0
+IsLoneAnswer (Known telling) files label before s text status =
     IsKnownReply telling files before s text status
-IsLoneAnswer (Try name proof) files before s text status =
+IsLoneAnswer KnownNormal files label before s text status =
+    IsKnownNormalReply label before s text status
+IsLoneAnswer (Try name proof) files label before s text status =
     IsTryReply (record { name = name.now; bytes = proof.now }) (sentences before) (sentence_of s)
     text status
 
@@ -388,22 +401,40 @@ abbrev pub IsLoneReply : LoneQuestion → List PlainFile → (label : List ℕ) 
 IsLoneReply asked files label text status =
     IsNotFoundReply files label text status
     ⊎ ((before : List PlainStatement) × (s : PlainStatement) × IsTheoremAt files label before s
-    × IsLoneAnswer asked files before s text status)
+    × IsLoneAnswer asked files label before s text status)
 
 -- ---- one statement
 
--- The reply tells the statement with the label, over those before it, which break no rule of meaning.
--- What stands behind it, and how anything is proved, is left open.
-abbrev pub IsStatementText : List PlainFile → (label : List ℕ) → List ℕ → ℕ → Type 0
-IsStatementText files label text status =
-    (before : List PlainStatement) × (s : PlainStatement) × IsReadTo files label before s
-    × TellsStatement files (before ++ s ∷ []) label text × (status ≡ 0)
+-- The text is the comment right before the first token of a statement, in its file: all its bytes,
+-- from its `$(` to its `$)`, and the end of a line. Where no comment stands there it is empty.
+abbrev pub IsCommentText : List PlainFile → PlainStatement → List ℕ → Type 0
+IsCommentText files s text =
+    ((start : ℕ) × (stop : ℕ) × IsCommentBefore (home_bytes files s) s.first.at start stop
+    × (text ≡ slice_range (home_bytes files s) start (stop + 2) ++ codes "\n"))
+    ⊎ (((start stop : ℕ) → ¬ (IsCommentBefore (home_bytes files s) s.first.at start stop))
+    × (text ≡ []))
+
+-- what is told first of a statement: if so it is asked, that comment
+abbrev pub IsToldFirst : (comment : Bool) → List PlainFile → PlainStatement → List ℕ → Type 0
+IsToldFirst true files s text = IsCommentText files s text
+IsToldFirst false files s text = text ≡ []
+
+-- The reply tells the statement with the label, over those before it, which break no rule of meaning,
+-- and before that, if so it is asked, its comment. What stands behind it, and how anything is proved,
+-- is left open.
+abbrev pub IsStatementText : (comment : Bool) → List PlainFile → (label : List ℕ) → List ℕ → ℕ
+    → Type 0
+IsStatementText comment files label text status =
+    (before : List PlainStatement) × (s : PlainStatement) × (first told : List ℕ)
+    × IsReadTo files label before s × IsToldFirst comment files s first
+    × TellsStatement files (before ++ s ∷ []) label told × (text ≡ first ++ told) × (status ≡ 0)
 
 -- The reply to the question what stands at a label: it is told, or it isn't known; or no statement of
 -- the files has the label, and none breaks a rule of meaning.
-abbrev pub IsStatementReply : List PlainFile → (label : List ℕ) → List ℕ → ℕ → Type 0
-IsStatementReply files label text status =
-    IsStatementText files label text status
+abbrev pub IsStatementReply : (comment : Bool) → List PlainFile → (label : List ℕ) → List ℕ → ℕ
+    → Type 0
+IsStatementReply comment files label text status =
+    IsStatementText comment files label text status
     ⊎ (IsUnreadReply files label text status
     ⊎ (IsNoTheorem files label A1 × IsAskReply (ask.Rule A1) label text status))
 
@@ -437,7 +468,8 @@ abbrev pub IsReplyTo : List PlainFile → Command → List ℕ → ℕ → Type 
 IsReplyTo files (Whole profile asked) text status = IsWholeReply asked profile files text status
 IsReplyTo files (About label asked) text status = IsAboutReply asked files label.now text status
 IsReplyTo files (Lone label asked) text status = IsLoneReply asked files label.now text status
-IsReplyTo files (Statement label) text status = IsStatementReply files label.now text status
+IsReplyTo files (Statement label comment) text status =
+    IsStatementReply comment files label.now text status
 IsReplyTo files (File wanted number) text status =
     IsQuestionReply Lenient files (IsAllSavedReply wanted files number) text status
 IsReplyTo files (Shorter number duplicates) text status =

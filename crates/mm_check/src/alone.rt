@@ -1,6 +1,6 @@
 //! The replies to questions about one theorem alone, over the statements before it.
 
-ghost use Rattle.std.specs.Prelude.{ℕ, List, map, IfOk};
+ghost use Rattle.std.specs.Prelude.{map, IfOk};
 ghost use Rattle.mm_text.specs.Files.{plain_file};
 ghost use Rattle.mm_base.specs.Statement.{plain_statement};
 ghost use Rattle.mm_explain.specs.Mirror.Reached.{HasReached, IsUnreached};
@@ -8,6 +8,7 @@ ghost use Rattle.mm_check.specs.Reply.{IsLoneAnswer, IsLoneReply, IsNotFoundRepl
 ghost use Rattle.mm_rules.specs.Status.{number_of};
 
 use crate::checked_prefix::known_reply;
+use crate::known_normal::known_normal_reply;
 use mm_base::{File, Seed};
 use mm_explain::read_to::read_to;
 use mm_explain::{Reached, Unreached, try_reply};
@@ -36,17 +37,18 @@ fn not_found_reply(
 fn answer_about(
     alloc: Global,
     files: &[File],
+    label: &[u8],
     reached: &Reached,
     question: &LoneQuestion,
 ) -> Result<Reply, AllocError>
-    requires { (label : List ℕ) × HasReached (map plain_file files.now) label reached.now }
-    ensures { IfOk result (λ reply. (label : List ℕ)
-        (r : HasReached (map plain_file files.now) label reached.now)
-        → IsLoneAnswer question.now (map plain_file files.now) r.before
+    requires { HasReached (map plain_file files.now) label.now reached.now }
+    ensures { IfOk result (λ reply. (r : HasReached (map plain_file files.now) label.now reached.now)
+        → IsLoneAnswer question.now (map plain_file files.now) label.now r.before
         (plain_statement reached.now.statement) reply.text.items (number_of reply.status)) }
 {
     match question {
         LoneQuestion::Known(telling) => known_reply(alloc, files, reached, *telling),
+        LoneQuestion::KnownNormal => known_normal_reply(alloc, label, reached),
         LoneQuestion::Try { name, text } => {
             let proof = File { name, bytes: text };
             try_reply(alloc, &reached.book, reached.id, &proof)
@@ -66,7 +68,7 @@ pub(crate) fn lone_reply(
         reply.text.items (number_of reply.status)) }
 {
     match read_to(alloc, seed, files, label) {
-        Ok(reached) => answer_about(alloc, files, &reached, question),
+        Ok(reached) => answer_about(alloc, files, label, &reached, question),
         Err(why) => not_found_reply(alloc, files, label, why),
     }
 }

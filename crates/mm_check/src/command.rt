@@ -91,7 +91,9 @@ pub fn reply_to<W: SearchWatch>(
             about_reply(alloc, seed, files, label, question, watch)
         }
         Command::Lone { label, question } => lone_reply(alloc, seed, files, label, question),
-        Command::Statement(label) => statement_reply(alloc, seed, files, label),
+        Command::Statement { label, comment } => {
+            statement_reply(alloc, seed, files, label, *comment)
+        }
         Command::File { form, file } => all_saved_reply(alloc, seed, files, *form, *file),
         Command::Shorter { file, duplicates } => {
             let asked = Asked::File(Wanted {

@@ -14,6 +14,7 @@ mod alone;
 mod chain;
 mod checked_prefix;
 mod command;
+mod known_normal;
 mod question;
 mod stated;
 mod told;

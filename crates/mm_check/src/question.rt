@@ -10,7 +10,7 @@ ghost use Rattle.mm_rules.specs.Verdict.{labels_of};
 ghost use Rattle.mm_rules.specs.Status.{number_of};
 ghost use Rattle.mm_verdict.specs.Reply.{IsAskReply, lines_of};
 ghost use Rattle.mm_check.specs.Reply.{IsAxiomsReply, IsFormText, IsFormTextFault, IsReportFor};
-ghost use Rattle.mm_check.specs.Reply.{IsSameReply, IsAnswerTo, ListsUsers};
+ghost use Rattle.mm_check.specs.Reply.{IsSameReply, IsAnswerTo, IsMinimizedText, ListsUsers};
 ghost use Rattle.mm_check.specs.Reply.{same_text, same_status};
 ghost use Rattle.mm_check.specs.Reply.{report_text as report_text_at};
 ghost use Rattle.mm_check.specs.Reply.{report_status as report_status_at};
@@ -22,7 +22,7 @@ use crate::chain::chain_answer;
 use crate::told::lettered_listing;
 use mm_axioms::{Report, all_users, axioms, direct_users, essential_axioms};
 use mm_frame::LabelId;
-use mm_minimize::{SearchWatch, minimized_by_library};
+use mm_minimize::{SearchWatch, minimized_by_library, minimized_whole};
 use mm_render::{
     is_same_proof, normal_form, packed_form, proof_listing, saved_file, small_form, uses_listing,
 };
@@ -265,6 +265,29 @@ fn users_text(
     Ok(text)
 }
 
+/// A shorter proof of the theorem with a label, or its own small one; or the bytes of its whole
+/// file, with the shorter one if there is one.
+fn minimized_text<W: SearchWatch>(
+    alloc: Global,
+    checked: &Checked,
+    label: &[u8],
+    whole: bool,
+    watch: &mut W,
+) -> Result<Vec<u8>, AskFault>
+    ensures text { IfOk result (λ text. (statements : List PlainStatement)
+        → Reads checked.now.files statements None
+        → IsMinimizedText whole checked.now.profile checked.now.files statements label.now
+        text.items) }
+    ensures fault { IfErr result (λ fault. (statements : List PlainStatement)
+        → Reads checked.now.files statements None → IsAskFault statements label.now fault) }
+{
+    if whole {
+        minimized_whole(alloc, checked, label, watch)
+    } else {
+        minimized_by_library(alloc, checked, label, watch)
+    }
+}
+
 /// The reply of a database in which nothing is at fault to a question about a label.
 pub(crate) fn answer_to<W: SearchWatch>(
     alloc: Global,
@@ -302,11 +325,11 @@ pub(crate) fn answer_to<W: SearchWatch>(
         Question::Users { all } => {
             text_reply(alloc, label, users_text(alloc, checked, label, *all))
         }
-        Question::Minimized => {
+        Question::Minimized { whole } => {
             text_reply(
                 alloc,
                 label,
-                minimized_by_library(alloc, checked, label, watch),
+                minimized_text(alloc, checked, label, *whole, watch),
             )
         }
     }

@@ -1,4 +1,5 @@
 -- Proofs and statements as they are told.
+pub mod SpelledLabels
 pub mod ToldTrees
 pub mod ComparedTexts
 pub mod ShownSteps

@@ -1,7 +1,8 @@
 -- The forms in which a theorem's proof is written anew: the normal proof, which is the spelling of
 -- its tree, the packed one, which is the fully shared proof of its tree, and the small one, whose
--- labels are listed by use (the Metamath book, sections 4.3 and 4.4.3, appendix B).
-use Rattle.std.specs.Prelude.{◌≡◌, ℕ, ◌<◌, ◌≤◌, List, take, length, slice_get, true, Some}
+-- labels are listed by use (the Metamath book, sections 4.3, 4.4.3 and 4.4.4, appendix B).
+use Rattle.std.specs.Prelude.{◌≡◌, ℕ, ◌<◌, ◌≤◌, List, [], ◌∷◌, ◌++◌, take, length, slice_get, Some}
+use Rattle.std.specs.Prelude.{Bool, true, false, codes}
 use Rattle.mm_base.specs.Statement.{PlainStatement}
 use Rattle.mm_code.specs.declared.code.Code.{Code}
 use Rattle.mm_code.specs.Letters.{SpellsCodes, Letters}
@@ -11,7 +12,7 @@ use Rattle.mm_frame.specs.Sentence.{Sentence, sentence_of, IsLabelled}
 use Rattle.mm_step.specs.Tree.{Trees, none, tree, spelling}
 use Rattle.mm_step.specs.Moves.{Move}
 use Rattle.mm_proof.specs.Tokens.{SayMoves}
-use Rattle.mm_forms.specs.OneTree.{MakeTree}
+use Rattle.mm_forms.specs.OneTree.{MakeRow, MakeTree}
 use Rattle.mm_forms.specs.Sharing.{IsPacked}
 use Rattle.mm_forms.specs.SmallProofs.{IsSmall}
 use Rattle.mm_rules.specs.declared.ask.AskFault.{AskFault}
@@ -103,3 +104,23 @@ IsNormalFault statements label (Rule L2) =
     × HasProofTree statements label index s root below
     × (most_labels < length (spelling (tree root below none)))
 IsNormalFault statements label fault = IsAskFault statements label fault
+
+-- ---- a proof as far as it is known
+
+-- labels; where a proof is unfinished, a `?` behind them, for what isn't known of it
+abbrev pub with_unknown : (unfinished : Bool) → (labels : List (List ℕ)) → List (List ℕ)
+with_unknown false labels = labels
+with_unknown true labels = labels ++ codes "?" ∷ []
+
+-- the text is the normal proof that has these moves, or begins with them: the labels that their
+-- trees spell, in lines; they are no more than may be written
+abbrev pub IsBeginningText : (unfinished : Bool) → (before : List Sentence)
+    → List (Move (List ℕ)) → (text : List ℕ) → Type 0
+IsBeginningText unfinished before moves text =
+    (row : Trees) × MakeRow before moves row × (length (spelling row) ≤ most_labels)
+    × LaidOut (with_unknown unfinished (spelling row)) text
+
+-- there is none that is written: their trees spell more labels than may be
+abbrev pub IsBeginningTooLong : (before : List Sentence) → List (Move (List ℕ)) → Type 0
+IsBeginningTooLong before moves =
+    (row : Trees) × MakeRow before moves row × (most_labels < length (spelling row))

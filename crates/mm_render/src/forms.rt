@@ -28,10 +28,10 @@ use mm_verdict::{Form, Theorem};
 use std::alloc::{AllocError, Global};
 
 // The most labels of a normal proof that is written.
-const MOST_LABELS: usize = 16_777_216;
+pub(crate) const MOST_LABELS: usize = 16_777_216;
 
 /// The labels with these numbers.
-fn names_of<'a>(
+pub(crate) fn names_of<'a>(
     alloc: Global,
     book: &Book<'a>,
     ids: &[LabelId],

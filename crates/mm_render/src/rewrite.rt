@@ -74,11 +74,27 @@ fn is_over(files: &[File], number: usize, count: usize) -> bool
 }
 
 /// The bytes of a span in the file with a number.
-pub(crate) fn bytes_of<'a>(files: &'a [File<'a>], number: usize, span: (u32, u32)) -> &'a [u8]
+pub fn bytes_of<'a>(files: &'a [File<'a>], number: usize, span: (u32, u32)) -> &'a [u8]
     requires { HoldsSpan (map plain_file files.now) number span }
     ensures { StandIn (map plain_file files.now) number span result.now }
 {
     &files[number].bytes[span.0 as usize..span.1 as usize]
+}
+
+/// The bytes of the file with a number, with a text in place of those of a span, however many they
+/// are.
+pub fn file_with_text(
+    alloc: Global,
+    files: &[File],
+    number: usize,
+    span: (u32, u32),
+    text: &[u8],
+) -> Result<Vec<u8>, AllocError>
+    requires { HoldsSpan (map plain_file files.now) number span }
+    ensures { IfOk result (λ new.
+        IsPutIn (map plain_file files.now) number span text.now new.items) }
+{
+    with_text(alloc, files[number].bytes, span, text)
 }
 
 /// The bytes of the file with a number, with a text in place of those of a span.

@@ -24,8 +24,12 @@ pub enum Command<'a> {
         question: LoneQuestion<'a>,
     },
     /// Of the statement with this label, whatever its kind: where it stands, its frame and what it
-    /// says. What stands after it isn't read, and no proof is judged.
-    Statement(&'a [u8]),
+    /// says; if `comment`, first the comment right before it. What stands after it isn't read, and
+    /// no proof is judged.
+    Statement {
+        label: &'a [u8],
+        comment: bool,
+    },
     /// For the bytes of the handed file with this number, which is below the count of files, with
     /// each complete proof in this form.
     File {
@@ -95,8 +99,9 @@ pub enum Question<'a> {
     /// Of the assertion with the label: for the theorems whose proofs use it; if `all`, for those
     /// that depend on it.
     Users { all: bool },
-    /// For the small text of its shortest proof by what the library has.
-    Minimized,
+    /// For the small text of its shortest proof by what the library has; if `whole`, for the bytes
+    /// of its file, with this proof in place of its own, where it becomes shorter.
+    Minimized { whole: bool },
 }
 
 /// What is told of each step of a proof, besides what it is called and its expression.
@@ -117,6 +122,8 @@ pub enum Telling {
 pub enum LoneQuestion<'a> {
     /// How it is proved, step by step, as far as that is known.
     Known(Telling),
+    /// For its normal proof, as far as that is known.
+    KnownNormal,
     /// Whether this text is a proof of it, whatever stands in the file as its proof. Its name is
     /// that of the file that holds it: the place of a fault is reported in that file.
     Try { name: &'a [u8], text: &'a [u8] },

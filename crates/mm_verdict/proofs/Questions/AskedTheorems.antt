@@ -176,7 +176,7 @@ one_tree statements id p q t u all one other =
 -- ---- what is kept of proofs is what they use
 
 -- a number among those of proofs is that of one
-number_among : (uses : List ProofUses) (id : ℕ) → Contains (numbers_of uses) id → (u : ProofUses) × Contains uses u × (u.number ≡ id)
+pub number_among : (uses : List ProofUses) (id : ℕ) → Contains (numbers_of uses) id → (u : ProofUses) × Contains uses u × (u.number ≡ id)
 number_among uses id h =
     let at = at_from_contains (numbers_of uses) id h in
     let found = get_unmapped (λ (u : ProofUses). u.number) uses at.0 id at.1 in

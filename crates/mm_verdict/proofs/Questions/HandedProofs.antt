@@ -14,7 +14,7 @@ use Rattle.mm_text.specs.declared.comments.Wrong.{Wrong}
 use Rattle.mm_text.specs.declared.fault.TextRule.{TextRule}
 use Rattle.mm_text.specs.declared.fault.TextRule.TheVariants.{X9}
 use Rattle.mm_text.specs.Items.{holds_dollar}
-use Rattle.mm_text.specs.Shown.{broken_at, clear_tokens, first_broken, shown_in}
+use Rattle.mm_text.specs.Shown.{broken_at, first_broken, shown_in}
 use Rattle.mm_rules.specs.ProofText.{before_stop, begun_tokens, behind_equals, broken_in, end_before}
 use Rattle.mm_rules.specs.ProofText.{fault_or_dollar, first_dollar, proof_end, proof_tokens}
 

@@ -146,7 +146,8 @@ abbrev pub AreUsesOf : List PlainStatement → ProofUses → Type 0
 AreUsesOf statements u =
     (index : ℕ) × (t : Trees) × HasTree statements u.number index t × AreUsed (sentences (take index statements)) t u.used
 
-uses_grow : (statements more : List PlainStatement) (u : ProofUses) → AreUsesOf statements u → AreUsesOf (statements ++ more) u
+-- what is kept of one proof, where more statements follow
+pub uses_grow : (statements more : List PlainStatement) (u : ProofUses) → AreUsesOf statements u → AreUsesOf (statements ++ more) u
 uses_grow statements more u (index, t, has, used) =
     let within : index < length statements = slice_get_within statements index has.s has.at.there in
     let still = rw (← take-append-le index statements more (omega arith)) at used in

@@ -9,5 +9,5 @@ returns-in-Ok c =
     let r = c.in-Ok.ensures.reached in
     IfOk-weaker c.answer_about.result _ _
     (λ reply told.
-    inr (r.before, plain_statement c.in-Ok.reached.statement, r.at, told c.args.label.now r))
+    inr (r.before, plain_statement c.in-Ok.reached.statement, r.at, told r))
     c.answer_about.ensures

@@ -6,9 +6,8 @@ use Rattle.mm_rules.specs.Rests.{IsAskFault}
 use Rattle.mm_axioms.specs.Users.{IsAssertionFault}
 use Rattle.mm_render.specs.Shown.{ShowsProof}
 use Rattle.mm_render.specs.ShownUses.{ShowsUses}
-use Rattle.mm_render.specs.Shorter.{IsMinimized}
 use Rattle.mm_verdict.specs.declared.question.Telling.TheVariants.{Letters}
-use Rattle.mm_check.specs.Reply.{IsFormText, IsFormTextFault, ListsUsers}
+use Rattle.mm_check.specs.Reply.{IsFormText, IsFormTextFault, IsMinimizedText, ListsUsers}
 use Rattle.mm_check.specs.Told.{TellsProof}
 use Rattle.mm_check.proofs.AnswersTold.{text_told}
 use Rattle.mm_check.proofs.question.answer_to.Goals as goal
@@ -79,7 +78,8 @@ returns-in-Minimized g c =
     let files : List PlainFile = c.args.checked.now.files in
     rw c.in-Minimized.is
     (text_told files label
-    (λ statements text. IsMinimized c.args.checked.now.profile files statements label text)
+    (λ statements text. IsMinimizedText c.in-Minimized.whole c.args.checked.now.profile files
+    statements label text)
     (λ statements fault. IsAskFault statements label fault) _ _
-    c.minimized_by_library.ensures.text c.minimized_by_library.ensures.fault
+    c.minimized_text.ensures.text c.minimized_text.ensures.fault
     c.text_reply-in-Minimized.ensures)

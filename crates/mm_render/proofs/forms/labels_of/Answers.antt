@@ -1,13 +1,10 @@
 -- What is given is within the most labels, and what is refused is over them.
-use Rattle.std.proofs.Common.{◌≡◌, ◌⊎◌, [], ◌∷◌, ◌++◌, Result, Err, length, inl, inr, refl}
+use Rattle.std.proofs.Common.{[], ◌∷◌, ◌++◌, length}
 use Rattle.mm_base.proofs.Lists.{error_keeps}
 use Rattle.mm_step.specs.Tree.{spelling}
-use Rattle.mm_step.specs.declared.fault.ExpandFault.{ExpandFault}
-use Rattle.mm_step.specs.declared.fault.ExpandFault.TheVariants as expand
-use Rattle.mm_rules.specs.declared.ask.AskFault.TheVariants.{Rule, Memory}
-use Rattle.mm_rules.specs.declared.rule.AskRule.TheVariants.{L2}
 use Rattle.mm_rules.specs.Forms.{expand_fault}
 use Rattle.mm_render.specs.Forms.{most_labels}
+use Rattle.mm_render.proofs.ToldProofs.SpelledLabels.{expand_told}
 use Rattle.mm_render.proofs.ToldProofs.ToldTrees.{steps_make}
 use Rattle.mm_verdict.proofs.Questions.AskedTheorems.{given_is_within, refused_is_over}
 use Rattle.mm_render.proofs.forms.labels_of.Goals as goal
@@ -24,18 +21,11 @@ returns-clause-spelled c = λ index s moves number numbered label below made. (
       (c.in_ok-expand.ensures.over index s moves number numbered label below made),
 )
 
--- what a fault of expanding is told as
-told : {X Over : Type 0} (r : Result X ExpandFault) (fault : ExpandFault) → r ≡ Err fault
-    → (r ≡ Err expand.L2 → Over)
-    → (expand_fault fault ≡ Memory) ⊎ ((expand_fault fault ≡ Rule L2) × Over)
-told r expand.L2 is over = inr (refl, over is)
-told r expand.Memory is over = inl refl
-
 pub returns-in_err-expand-clause-fault : goal.returns-in_err-expand-clause-fault
 returns-in_err-expand-clause-fault c =
     error_keeps c.from_residual.result (expand_fault c.in_err-expand.field-0.0) _
     c.from_residual.ensures.1
-    (told c.expand.result c.in_err-expand.field-0.0 c.in_err-expand.was
+    (expand_told c.expand.result c.in_err-expand.field-0.0 c.in_err-expand.was
     (λ is index s moves number numbered label below made.
     refused_is_over c.expand.result most_labels (length (spelling below ++ label ∷ [])) is
     (c.expand.ensures.within index s moves number numbered label below made)))

@@ -1,9 +1,8 @@
 -- The tokens are those of the proof, or the text is wrong.
-use Rattle.std.proofs.Common.{◌≡◌, ◌≤◌, ℕ, List, None, Some, ap, map, option_map, length, sym}
+use Rattle.std.proofs.Common.{◌≡◌, ℕ, List, None, ap, map, option_map, length, sym}
 use Rattle.std.proofs.Common.{◌∙◌, arith}
 use Rattle.std.specs.List.{sum_by}
-use Rattle.mm_base.specs.MostBytes.{most_bytes}
-use Rattle.mm_base.specs.Token.{PlainToken, plain_token}
+use Rattle.mm_base.specs.Token.{plain_token}
 use Rattle.mm_code.specs.Words.{texts_of}
 use Rattle.mm_text.specs.Shown.{broken_at, clear_tokens, first_broken, shown_in}
 use Rattle.mm_rules.specs.ProofText.{before_stop, begun_tokens, behind_equals, end_before}

@@ -1,5 +1,5 @@
 -- What is read again is the theorem, which was judged.
-use Rattle.std.proofs.Common.{◌≡◌, ℕ, List, map, None, ap, subst}
+use Rattle.std.proofs.Common.{◌≡◌, ℕ, List, None, ap, subst}
 use Rattle.std.proofs.lemmas.Result.{IfOk-weaker}
 use Rattle.mm_base.specs.Statement.{PlainStatement, plain_statement}
 use Rattle.mm_text.specs.Reading.{Reads}
