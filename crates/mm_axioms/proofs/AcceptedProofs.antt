@@ -25,7 +25,7 @@ use Rattle.mm_frame.specs.Rules.{AllMeant, FirstBroken, IsMeant}
 use Rattle.mm_frame.specs.Sentence.{Sentence, sentence_of, IsAssertion, IsLabelled}
 use Rattle.mm_frame.specs.Taken.{TakenAs, next_id}
 use Rattle.mm_frame.proofs.Names.LabelNumbers.{numbered_fall, numbered_within}
-use Rattle.mm_frame.proofs.Names.NameNumbers.{get_mapped, get_unmapped}
+use Rattle.mm_frame.proofs.Names.NameNumbers.{get_mapped}
 use Rattle.mm_step.specs.Proof.{IsWithin}
 use Rattle.mm_step.specs.Profiles.{limit_of}
 use Rattle.mm_step.specs.Tree.{none as no_trees, tree}
@@ -59,12 +59,13 @@ use Rattle.mm_rules.proofs.Numbers.{holds_cases, in_order_push, in_order_same, o
 use Rattle.mm_verdict.specs.Mirror.Judged.{HasTaken, RefusesLoad, StopsTurn, TakesNext}
 use Rattle.mm_verdict.specs.Mirror.Taking.{TakesAs}
 use Rattle.mm_verdict.specs.Reply.{lines_of}
-use Rattle.mm_verdict.proofs.Questions.AskedTheorems.{map-take, numbered_as, one_tree, rests_as}
+use Rattle.mm_verdict.proofs.Questions.AskedTheorems.{map-take, number_among, numbered_as, one_tree}
+use Rattle.mm_verdict.proofs.Questions.AskedTheorems.{rests_as}
 use Rattle.mm_verdict.proofs.Verdicts.AcceptedStatements.{same_reading}
 use Rattle.mm_verdict.proofs.Verdicts.FaultLists.{meant_more, none_meant}
 use Rattle.mm_verdict.proofs.Verdicts.StatementByStatement.{AreUsesOf, Spells, at_cases}
 use Rattle.mm_verdict.proofs.Verdicts.StatementByStatement.{at_grow, at_last, proof_not_unproved}
-use Rattle.mm_verdict.proofs.Verdicts.StatementByStatement.{provable_kind, taken_more, tree_grow}
+use Rattle.mm_verdict.proofs.Verdicts.StatementByStatement.{provable_kind, taken_more, uses_grow}
 use Rattle.mm_axioms.specs.Accepted.{AreAcceptedUsers, AreMeant, IsAccepted, UsesAccepted}
 use Rattle.mm_axioms.specs.Accepted.{UsesItAccepted}
 use Rattle.mm_axioms.specs.Mirror.Accepted.{AcceptsProof, AreAcceptedUses, HasAccepted, HasKept}
@@ -258,15 +259,6 @@ accepted_cases statements s id h =
 
 -- ---- what is kept
 
--- of one proof, where more statements follow
-used_grow : (statements more : List PlainStatement) (u : ProofUses) → AreUsesOf statements u
-    → AreUsesOf (statements ++ more) u
-used_grow statements more u (index, t, has, used) =
-    let within : index < length statements =
-    slice_get_within statements index has.s has.at.there in
-    let still = rw (← take-append-le index statements more (omega arith)) at used in
-    (index, t, tree_grow statements more u.number index t has, still)
-
 -- an accepted proof is a proof, of the same tree
 accepted_proof : (before : List Sentence) (s : Sentence) (tokens : List (List ℕ))
     → IsProvedWithin (IsWithin (limit_of Lenient)) before s tokens → IsProved before s tokens
@@ -352,7 +344,7 @@ kept_more statements s old new formed uses (inl (complete, used, shown, pushed))
             ],
           )));
       each = λ v h. elim (holds_cases old u v h) [
-        | inl before ↦ used_grow statements (s ∷ []) v (uses.each v before)
+        | inl before ↦ uses_grow statements (s ∷ []) v (uses.each v before)
         | inr last ↦ subst (λ (w : ProofUses). AreUsesOf (statements ++ s ∷ []) w) (sym last)
             (used_last statements s used named complete shown)
       ];
@@ -367,7 +359,7 @@ kept_more statements s old new formed uses (inr (none, same)) =
               | inr last ↦ absurd (none last.0)
             ],
           ));
-      each = λ v h. used_grow statements (s ∷ []) v (uses.each v h);
+      each = λ v h. uses_grow statements (s ∷ []) v (uses.each v h);
     })
 
 -- ==== the way through the statements
@@ -496,14 +488,6 @@ stop_unkept files (stop.Refused refusal) stops = stops
 stop_unkept files stop.Memory stops = tt
 
 -- ==== who uses an assertion
-
--- a number among those of proofs is that of one
-number_among : (uses : List ProofUses) (id : ℕ) → Contains (numbers_of uses) id
-    → (u : ProofUses) × Contains uses u × (u.number ≡ id)
-number_among uses id h =
-    let at = at_from_contains (numbers_of uses) id h in
-    let found = get_unmapped (λ (u : ProofUses). u.number) uses at.0 id at.1 in
-    (found.0, contains_from_at uses found.0 (at.0, found.1), found.2)
 
 -- what is kept of accepted proofs is what they use
 used_accepted : (statements : List PlainStatement) (uses : List ProofUses)

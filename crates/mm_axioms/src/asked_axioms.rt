@@ -17,14 +17,15 @@ ghost use Rattle.mm_base.specs.Statement.{PlainStatement};
 ghost use Rattle.mm_base.specs.declared.statement.Kind.TheVariants.{Provable};
 ghost use Rattle.std.specs.List.{AllByRecursion};
 ghost use Rattle.std.specs.Prelude.{map};
-ghost use Rattle.std.specs.Prelude.{true, false, Some, None, IfOk, IfErr, IfSome, ℕ};
+ghost use Rattle.std.specs.Prelude.{true, false, Some, None, IfOk, IfErr, IfSome, ℕ, Contains};
 ghost use Rattle.std.specs.Prelude.{◌≡◌, ◌<◌, List, map, length, slice_get};
 
 use crate::bits::index_of;
 use crate::chains::{ChainFault, chain_between};
 use crate::essential::of_type;
 use crate::report::{
-    Report, Tables, axioms_among, axioms_in, marked_among, reach, report_in, tables_of, theorems_of,
+    Report, Tables, axioms_among, axioms_in, marked_among, reach, report_in, tables_of,
+    theorems_of, unproved_in,
 };
 use crate::users::{all_users_among, users_among};
 use mm_frame::{Found, LabelId};
@@ -281,4 +282,20 @@ pub fn axioms_at(
         × RestsOn (UsedIn checked.now.uses) theorem.0 n) (map (λ l. l.0) ids.items)) }
 {
     axioms_in(alloc, tables, theorem)
+}
+
+/// The theorems with incomplete proofs that a theorem depends on, as the tables tell them, in
+/// database order.
+pub fn unproved_at(
+    alloc: Global,
+    checked: &Checked,
+    tables: &Tables,
+    theorem: LabelId,
+) -> Result<Vec<LabelId>, AllocError>
+    requires { AreTables checked.now.sentences checked.now.incomplete checked.now.uses
+        tables.now }
+    ensures { IfOk result (λ ids. AreInOrder (λ n. Contains checked.now.incomplete n
+        × RestsOn (UsedIn checked.now.uses) theorem.0 n) (map (λ l. l.0) ids.items)) }
+{
+    unproved_in(alloc, tables, &checked.incomplete, theorem)
 }

@@ -23,7 +23,7 @@ mod users;
 pub use accepted::accepted_users;
 pub use all_axioms::{all_axioms_text, push_marked};
 pub use asked_axioms::{
-    all_users, axioms, axioms_at, chain, direct_users, essential_axioms, tables,
+    all_users, axioms, axioms_at, chain, direct_users, essential_axioms, tables, unproved_at,
 };
 pub use bits::index_of;
 pub use chains::ChainFault;

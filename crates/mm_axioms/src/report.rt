@@ -213,6 +213,20 @@ pub(crate) fn axioms_in(
     reached(alloc, &tables.axioms, &tables.axiom_rows, theorem)
 }
 
+/// The unproved theorems that a theorem depends on, as the tables tell them.
+pub(crate) fn unproved_in(
+    alloc: Global,
+    tables: &Tables,
+    incomplete: &[LabelId],
+    theorem: LabelId,
+) -> Result<Vec<LabelId>, AllocError>
+    requires { AreRising (map (λ l. l.0) incomplete.now) }
+    ensures { IfOk result (λ ids. AreReached (map (λ l. l.0) incomplete.now)
+        tables.now.unproved_rows theorem.0 (map (λ l. l.0) ids.items)) }
+{
+    reached(alloc, incomplete, &tables.unproved_rows, theorem)
+}
+
 /// What a theorem depends on, as the tables tell it.
 pub(crate) fn report_in(
     alloc: Global,

@@ -7,6 +7,7 @@ use Rattle.std.specs.Prelude.{◌^◌, ◌-◌}
 use Rattle.std.specs.List.{flat_map, sum_by}
 use Rattle.mm_base.specs.Statement.{PlainStatement}
 use Rattle.mm_text.specs.Files.{PlainFile}
+use Rattle.mm_text.specs.Replaced.{with_span}
 use Rattle.mm_frame.specs.Numbers.{IsNumbered}
 use Rattle.mm_frame.specs.Sentence.{Sentence, sentence_of, IsLabelled}
 use Rattle.mm_step.specs.declared.profile.Profile.{Profile}
@@ -20,7 +21,7 @@ use Rattle.mm_render.specs.Forms.{IsSmallOf}
 use Rattle.mm_rules.specs.Rests.{AreInOrder, AreRising, Uses}
 use Rattle.mm_render.specs.Saved.{IsSpanText, within_span}
 use Rattle.mm_render.specs.Shorter.{IsShorterTree}
-use Rattle.mm_rules.specs.Verdict.{labels_of, sentences}
+use Rattle.mm_rules.specs.Verdict.{is_proof, labels_of, sentences}
 
 -- ---- duplicates
 
@@ -68,6 +69,22 @@ IsShortened profile duplicates files statements bytes s new =
     × ((new.text ≡ within_span bytes s.span)
     ⊎ ((label : List ℕ) × IsLabelled label (sentence_of s)
     × IsPutShorter profile duplicates files statements label (within_span bytes s.span) new.text))
+
+-- These are the bytes of the file in which the theorem with the label stands, whose proof is
+-- complete: with a shorter proof in place of its own, a duplicate too, or as they are. That one is
+-- found isn't said.
+pub record IsOneShortened (profile : Profile) (files : List PlainFile)
+    (statements : List PlainStatement) (label bytes : List ℕ) : Type 0 where
+  pub index : ℕ
+  pub s : PlainStatement
+  pub there : slice_get statements index ≡ Some s
+  pub named : IsLabelled label (sentence_of s)
+  pub complete : is_proof s ≡ true
+  pub file : PlainFile
+  pub handed : slice_get files s.first.file ≡ Some file
+  pub new : Replacement
+  pub shortened : IsShortened profile true files statements file.bytes s new
+  pub whole : bytes ≡ with_span file.bytes s.span new.text
 
 -- These are the bytes of the file with the number in which some theorems, or none, have shorter
 -- proofs: that each shorter proof is found isn't said.

@@ -1,2 +1,3 @@
 pub mod AllShorter
+pub mod Remarks
 pub mod Mirror

@@ -9,13 +9,14 @@ ghost use Rattle.mm_rules.specs.Answer.{KeepsLabels};
 ghost use Rattle.mm_render.specs.Saved.{FitsSaved};
 ghost use Rattle.mm_render.specs.Shorter.{IsMinimized};
 ghost use Rattle.mm_minimize.specs.AllShorter.{IsAllShortened, IsAllShorterFault, ShorterLine};
-ghost use Rattle.mm_minimize.specs.AllShorter.{AreShorterLines, shorter_text};
+ghost use Rattle.mm_minimize.specs.AllShorter.{AreShorterLines, IsOneShortened, shorter_text};
 ghost use Rattle.mm_minimize.specs.declared.search_watch.Searched.TheVariants.{Left};
 
+use crate::proof_pair::{compare, searched_for};
 use crate::search::Search;
 use crate::search_watch::{SearchWatch, Searched};
 use crate::shortening::{Minimized, Shortening};
-use crate::shorter_file::{Wanted, shorter_file};
+use crate::shorter_file::{Wanted, file_with_found, shorter_file};
 use crate::shorter_list::shorter_list;
 use mm_rules::AskFault;
 use mm_shorten::Reach;
@@ -82,6 +83,33 @@ pub fn minimized_by_library<W: SearchWatch>(
     let Minimized { text, searched } = shortening.minimized(alloc, &theorem, &mut search)?;
     watch.searched(searched_or_left(searched, search.left));
     Ok(text)
+}
+
+/// The bytes of the file in which the `$p` with this label stands, with the shorter proof that this
+/// search finds in place of its own, where that has fewer bytes; else as they are. The watch is
+/// told what the search came to.
+///
+/// # Errors
+///
+/// As for `axioms`.
+pub fn minimized_whole<W: SearchWatch>(
+    alloc: Global,
+    checked: &Checked,
+    label: &[u8],
+    watch: &mut W,
+) -> Result<Vec<u8>, AskFault>
+    ensures shortened { IfOk result (λ new. (statements : List PlainStatement)
+        → Reads checked.now.files statements None
+        → IsOneShortened checked.now.profile checked.now.files statements label.now new.items) }
+    ensures fault { IfErr result (λ fault. (statements : List PlainStatement)
+        → Reads checked.now.files statements None → IsAskFault statements label.now fault) }
+{
+    let theorem = checked.read_theorem(alloc, label)?;
+    let shortening = Shortening::new(alloc, checked)?;
+    let mut search = shortening.search(alloc, Reach::OneMissing);
+    let found = compare(alloc, &shortening, &theorem, &mut search)?;
+    watch.searched(searched_or_left(searched_for(&found), search.left));
+    file_with_found(alloc, checked, &theorem, &found)
 }
 
 /// A line for each theorem whose proof becomes shorter, and their sums. The watch is told after each

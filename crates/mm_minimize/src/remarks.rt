@@ -1,21 +1,19 @@
 //! What comments say of the statements of a database, and in which mathboxes these stand.
 
 ghost use Rattle.std.specs.Prelude.{◌≡◌, ◌≤◌, ◌<◌, ◌↔◌, List, ℕ, map, length, slice_get, true};
-ghost use Rattle.std.specs.Prelude.{[], IsTrue, IfOk, IfErr, OnOk, Some, None};
+ghost use Rattle.std.specs.Prelude.{[], IsTrue, IfOk, OnOk, Some, None};
 ghost use Rattle.std.specs.List.{AllByRecursion};
 ghost use Rattle.mm_base.specs.Statement.{PlainStatement, plain_statement};
 ghost use Rattle.mm_text.specs.Files.{PlainFile, plain_file};
 ghost use Rattle.mm_text.specs.Reading.{Reads};
 ghost use Rattle.mm_text.specs.Remarks.{mathbox_at};
-ghost use Rattle.mm_rules.specs.declared.ask.AskFault.TheVariants.{Memory};
 ghost use Rattle.mm_render.specs.Shorter.{MayUse};
-ghost use Rattle.mm_rules.specs.Verdict.{CanBeRead};
-ghost use Rattle.mm_minimize.specs.Mirror.Shortening.{AreRemarks, AreRemarksOf, IsRemarkOf};
+ghost use Rattle.mm_minimize.specs.Remarks.{AreRemarks, AreRemarksOf, IsRemarkOf};
 ghost use Rattle.mm_minimize.specs.Mirror.Shortening.{ArePassed, IsPassed};
 
-use mm_base::{File, Seed, Statement};
-use mm_rules::AskFault;
+use mm_base::{File, Statement};
 use mm_text::{Statements, headings_between, mathbox_at, says_before};
+use mm_verdict::Checked;
 use std::alloc::{AllocError, Global};
 
 /// Marks an assertion that no further proof should use.
@@ -26,15 +24,15 @@ const PROOF_MARK: &[u8] = b"(Proof modification is discouraged.)";
 
 /// What is said of a labelled statement where it stands.
 #[derive(Clone, Copy)]
-pub(crate) struct Remark {
+pub struct Remark {
     /// The number of its file.
     pub file: usize,
     /// The number of its mathbox in its file; 0 where it stands in none.
-    pub(crate) mathbox: usize,
+    pub mathbox: usize,
     /// Whether no further proof should use it.
-    pub(crate) is_discouraged: bool,
+    pub is_discouraged: bool,
     /// Whether its proof should stay as it is.
-    pub(crate) is_settled: bool,
+    pub is_settled: bool,
 }
 
 /// A position in a file, and the number of the mathbox in which it lies.
@@ -101,14 +99,13 @@ fn read_remarks<'a>(
     into: &mut Statement<'a>,
     passed: &mut [Passed],
     remarks: &mut Vec<Remark>,
-) -> Result<(), AskFault>
+) -> Result<(), AllocError>
     requires faultless { statements.old.ending ≡ None }
     requires reads { Reads (map plain_file files.now) statements.old.statements None }
     requires passed { ArePassed (map plain_file files.now) passed.old }
     requires begin { remarks.old.items ≡ [] }
-    ensures remarks { OnOk result (AreRemarksOf (map plain_file files.now)
-        statements.old.statements remarks.new.items) }
-    ensures memory { IfErr result (λ fault. fault ≡ Memory) }
+    ensures { OnOk result (AreRemarksOf (map plain_file files.now) statements.old.statements
+        remarks.new.items) }
 {
     while statements.more(into)? {
         if into.label.is_some() {
@@ -118,16 +115,17 @@ fn read_remarks<'a>(
     Ok(())
 }
 
-/// What is said of each labelled statement of the files, by its number.
-pub(crate) fn remarks_of(alloc: Global, seed: Seed, files: &[File]) -> Result<Vec<Remark>, AskFault>
-    requires readable { CanBeRead (map plain_file files.now) }
-    requires reads { (statements : List PlainStatement)
-        × Reads (map plain_file files.now) statements None }
-    ensures remarks { IfOk result (λ remarks. AreRemarks (map plain_file files.now) remarks.items) }
-    ensures memory { IfErr result (λ fault. fault ≡ Memory) }
+/// What is said of each labelled statement of a database, by its number.
+///
+/// # Errors
+///
+/// Only where a growth was refused.
+pub fn remarks_of(alloc: Global, checked: &Checked) -> Result<Vec<Remark>, AllocError>
+    ensures { IfOk result (λ remarks. AreRemarks checked.now.files remarks.items) }
 {
+    let files = checked.files;
     let mut passed = beginnings(alloc, files.len())?;
-    let mut statements = Statements::of_readable(alloc, seed, files)?;
+    let mut statements = Statements::of_readable(alloc, checked.book.seed(), files)?;
     let mut statement = Statement::empty(alloc);
     let mut remarks = Vec::new(alloc);
     let read = read_remarks(
@@ -149,8 +147,8 @@ pub(crate) fn remarks_of(alloc: Global, seed: Seed, files: &[File]) -> Result<Ve
     }
 }
 
-/// Whether a theorem may newly use an assertion.
-pub(crate) fn may_use(theorem: &Remark, assertion: &Remark) -> bool
+/// Whether a theorem may newly use an assertion, by what is said of both.
+pub fn may_use(theorem: &Remark, assertion: &Remark) -> bool
     ensures { (files : List PlainFile) → (s a : PlainStatement)
         → IsRemarkOf files s theorem.now → IsRemarkOf files a assertion.now
         → IsTrue result ↔ MayUse files s a }

@@ -15,7 +15,8 @@ ghost use Rattle.mm_rules.specs.Rests.{AreRising, IsAt};
 ghost use Rattle.mm_render.specs.Shorter.{IsMinimized, IsMarkedWith, proof_mark};
 ghost use Rattle.mm_rules.specs.Mirror.Marks.{UsedIn};
 ghost use Rattle.mm_minimize.specs.Mirror.Shortening.{KnowsDatabase, AreNewlyUsed, IsAllowedIn};
-ghost use Rattle.mm_minimize.specs.Mirror.Shortening.{IsRemarkOf, IsSearchedFor};
+ghost use Rattle.mm_minimize.specs.Mirror.Shortening.{IsSearchedFor};
+ghost use Rattle.mm_minimize.specs.Remarks.{IsRemarkOf};
 ghost use Rattle.mm_minimize.specs.Mirror.Shortening.{IsAllowedProof, IsUnmarkedIn};
 ghost use Rattle.mm_render.specs.Mirror.Shortening.{IsOwnProof};
 ghost use Rattle.mm_minimize.specs.Mirror.Shortening.{IsProvedAnew, IsFound, HaveOneCode, IsJustOne};
@@ -144,7 +145,7 @@ impl<'c, 'a> Shortening<'c, 'a> {
         ensures known { IfOk result KnowsDatabase }
         ensures memory { IfErr result (λ fault. fault ≡ Memory) }
     {
-        let remarks = remarks_of(alloc, checked.book.seed(), checked.files)?;
+        let remarks = remarks_of(alloc, checked)?;
         let tables = tables(alloc, &checked)?;
         Ok(Shortening {
             checked,

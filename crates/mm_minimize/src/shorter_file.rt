@@ -8,8 +8,9 @@ ghost use Rattle.mm_rules.specs.declared.ask.AskFault.TheVariants.{Memory};
 ghost use Rattle.mm_minimize.specs.AllShorter.{IsAllShortened, IsAllShorterFault};
 ghost use Rattle.mm_render.specs.Saved.{FitsSaved, within_span};
 ghost use Rattle.mm_minimize.specs.Mirror.AllShortening.{IsAllShortenedIn, IsShortenedSoFar};
-ghost use Rattle.mm_minimize.specs.Mirror.AllShortening.{IsTextOfFound, IsWanted, MayBeWritten};
-ghost use Rattle.mm_minimize.specs.Mirror.AllShortening.{MayStandIn, PutsShorter};
+ghost use Rattle.mm_minimize.specs.Mirror.AllShortening.{IsFileOfFound, IsTextOfFound, IsWanted};
+ghost use Rattle.mm_minimize.specs.Mirror.AllShortening.{MayBeWritten, MayStandIn, PutsShorter};
+ghost use Rattle.mm_render.specs.Mirror.Rewriting.{HoldsSpan};
 ghost use Rattle.mm_verdict.specs.Mirror.Rereading.{IsTheoremIn};
 ghost use Rattle.mm_minimize.specs.Mirror.Shortening.{KnowsDatabase};
 ghost use Rattle.mm_save.specs.Mirror.AllSaving.{IsWrittenSoFar};
@@ -20,10 +21,10 @@ use crate::search::Search;
 use crate::shortening::{Shortening, Shorter};
 use mm_base::Statement;
 use mm_frame::LabelId;
-use mm_render::small_span_text;
+use mm_render::{bytes_of, file_with_text, small_span_text};
 use mm_rules::AskFault;
 use mm_save::{NewFile, new_file};
-use mm_verdict::{Checked, Form, Rereading, Watch};
+use mm_verdict::{Checked, Form, Rereading, Theorem, Watch};
 use std::alloc::Global;
 
 /// What is written of a file: which proofs are replaced.
@@ -62,6 +63,27 @@ fn text_of_found(
         }
         _ => Ok(Vec::from_slice(alloc, old)?),
     }
+}
+
+/// The bytes of the file in which a theorem stands, with the shorter proof that was found in place
+/// of its own, a duplicate too, where that has fewer bytes; else as they are.
+pub(crate) fn file_with_found(
+    alloc: Global,
+    checked: &Checked,
+    theorem: &Theorem,
+    found: &Option<Compared>,
+) -> Result<Vec<u8>, AskFault>
+    requires there { (statements : List PlainStatement) → Reads checked.now.files statements None
+        → HoldsSpan checked.now.files theorem.now.file theorem.now.span }
+    requires may { IfSome found.now (MayBeWritten checked.now) }
+    ensures put { IfOk result (λ new. IsFileOfFound checked.now theorem.now found.now new.items) }
+    ensures memory { IfErr result (λ fault. fault ≡ Memory) }
+{
+    let files = checked.files;
+    let old = bytes_of(files, theorem.file, theorem.span);
+    let put = text_of_found(alloc, checked, true, found, old)?;
+    let new = file_with_text(alloc, files, theorem.file, theorem.span, &put)?;
+    Ok(new)
 }
 
 /// What is put in place of the old bytes of the proof of the theorem with this number: a shorter

@@ -1,19 +1,19 @@
 -- What a theorem rests on: it is marked proof after proof from the last one down, and one report
 -- tells it.
 use Rattle.std.proofs.Common.{◌≡◌, ◌↔◌, ℕ, zero, suc, ◌+◌, ◌<◌, ◌≤◌, List, [], ◌∷◌, ◌++◌, take}
-use Rattle.std.proofs.Common.{length, add-one, get_or, set, replicate, slice_get, Contains, Bool}
+use Rattle.std.proofs.Common.{length, get_or, set, replicate, slice_get, Contains, Bool}
 use Rattle.std.proofs.Common.{true, false, Some, ◌⊎◌, inl, inr, refl, sym, ap, subst, ◌∙◌, arith}
 use Rattle.std.proofs.lemmas.List.{get_or-set_same, get_or-set_other, get_or-replicate}
-use Rattle.std.proofs.lemmas.List.{length-replicate, length-set, map-append, take-map}
+use Rattle.std.proofs.lemmas.List.{length-replicate, length-set}
 use Rattle.std.proofs.lemmas.List.Elements.{Contains-append_left}
 use Rattle.std.proofs.lemmas.Bool.{cases_eq}
 use Rattle.std.proofs.lemmas.Option.{slice_get_within}
 use Rattle.mm_frame.proofs.Names.NameNumbers.{get_mapped}
 use Rattle.mm_frame.specs.declared.number.LabelId.{LabelId}
-use Rattle.mm_base.proofs.Lists.{take_next, get_from_take, at_from_contains, contains_from_at}
+use Rattle.mm_base.proofs.Lists.{at_from_contains, contains_from_at}
 use Rattle.mm_step.specs.Plain.{ids_in}
 use Rattle.mm_rules.specs.Conclusion.{ProofUses}
-use Rattle.mm_rules.specs.Rests.{AreRising, AreInOrder, RestsOn, IsNumberWhere, IsNamed, Uses}
+use Rattle.mm_rules.specs.Rests.{AreInOrder, RestsOn, IsNumberWhere, IsNamed, Uses}
 use Rattle.mm_rules.specs.Mirror.Marks.{IsMarked, UsedIn, AreBackward}
 use Rattle.mm_rules.proofs.Numbers.{holds_last, holds_cases}
 use Rattle.mm_rules.proofs.OrderedNumbers.{among_more, in_order_once}

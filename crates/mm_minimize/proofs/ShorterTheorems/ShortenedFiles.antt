@@ -1,37 +1,47 @@
 -- A file on its way to having shorter proofs: theorem by theorem, from the first span on.
-use Rattle.std.proofs.Common.{◌≡◌, ℕ, ◌≤◌, List, [], ◌∷◌, ◌++◌, take, length}
+use Rattle.std.proofs.Common.{◌≡◌, ℕ, ◌≤◌, List, [], ◌∷◌, ◌++◌, take, length, slice_get}
 use Rattle.std.proofs.Common.{Bool, true, false, cond, ◌&&◌, ◌==◌, Option, Some, None}
 use Rattle.std.specs.Prelude.{IfSome}
 use Rattle.std.proofs.Common.{◌⊎◌, inl, inr, refl, sym, ap, subst, ◌∙◌}
 use Rattle.std.proofs.Common.{append-nil}
 use Rattle.std.proofs.lemmas.Bool.{cases_Bool, false_from_ne_true}
 use Rattle.std.proofs.lemmas.List.Elements.{filter-append}
+use Rattle.std.proofs.lemmas.Option.{same_Some}
 use Rattle.mm_base.specs.declared.statement.Kind.TheVariants.{Provable}
 use Rattle.mm_base.specs.Statement.{PlainStatement, HasForm, plain_statement}
 use Rattle.mm_text.specs.Reading.{Reads}
+use Rattle.mm_text.specs.Replaced.{with_span}
 use Rattle.mm_frame.specs.declared.number.LabelId.{LabelId}
 use Rattle.mm_frame.specs.Sentence.{Sentence, sentence_of}
 use Rattle.mm_step.specs.Moves.{Move}
 use Rattle.mm_step.specs.Tree.{Trees}
 use Rattle.mm_rules.specs.declared.ask.AskFault.{AskFault}
+use Rattle.mm_render.specs.declared.forms.OwnProof.{OwnProof}
+use Rattle.mm_verdict.specs.declared.theorem.Theorem.{Theorem}
+use Rattle.mm_verdict.specs.Mirror.Rewriting.{IsHomeOf}
+use Rattle.mm_verdict.specs.Mirror.Theorems.{AreProvedSteps, AreStepsOf}
+use Rattle.mm_render.specs.Forms.{IsSmallOf}
 use Rattle.mm_minimize.specs.declared.proof_pair.Compared.{Compared}
 use Rattle.mm_minimize.specs.declared.shortening.Shorter.{Shorter}
 use Rattle.mm_verdict.specs.declared.form.Form.TheVariants.{Small}
 use Rattle.mm_save.specs.declared.save_all.NewFile.{NewFile}
 use Rattle.mm_verdict.specs.declared.theorems.Rereading.{Rereading}
 use Rattle.mm_save.specs.AllSaved.{Replacement, is_theorem_of, theorems_of}
-use Rattle.mm_minimize.specs.AllShorter.{IsAllShortened, IsAllShorterFault, IsShortened}
+use Rattle.mm_minimize.specs.AllShorter.{IsAllShortened, IsAllShorterFault, IsOneShortened}
+use Rattle.mm_minimize.specs.AllShorter.{IsPutShorter, IsShortened}
 use Rattle.mm_rules.specs.Conclusion.{Conclusion}
 use Rattle.mm_render.specs.Saved.{IsSpanText, within_span}
 use Rattle.mm_rules.specs.Verdict.{is_proof, sentences}
 use Rattle.mm_save.specs.Mirror.AllSaving.{AreReplacedSoFar, IsFinishFault, IsTakenSoFar, IsWhole}
-use Rattle.mm_minimize.specs.Mirror.AllShortening.{IsAllShortenedIn, IsShortenedSoFar, IsShorterFor}
-use Rattle.mm_minimize.specs.Mirror.AllShortening.{IsTextOfFound, IsWanted, MayBeWritten}
+use Rattle.mm_minimize.specs.Mirror.AllShortening.{AreCompared, IsAllShortenedIn, IsFileOfFound}
+use Rattle.mm_minimize.specs.Mirror.AllShortening.{IsShortenedSoFar, IsShorterFor, IsTextOfFound}
+use Rattle.mm_minimize.specs.Mirror.AllShortening.{IsWanted, MayBeWritten}
 use Rattle.mm_minimize.specs.Mirror.AllShortening.{MayStandIn, PutsShorter}
 use Rattle.mm_verdict.specs.Mirror.Rereading.{AreNoTheorems, GoesTo}
 use Rattle.mm_render.specs.Mirror.Rewriting.{IsSpanTextOf}
 use Rattle.mm_render.specs.Mirror.Shortening.{AreHanded}
-use Rattle.mm_minimize.specs.Mirror.Shortening.{MakeTreeOf}
+use Rattle.mm_minimize.specs.Mirror.Shortening.{IsFound, MakeTreeOf}
+use Rattle.mm_minimize.proofs.ShorterTheorems.ShorterProofs.{small_of}
 use Rattle.mm_verdict.proofs.Questions.AskedTheorems.{map-take}
 use Rattle.mm_verdict.proofs.Questions.TheoremsAgain.{at_reads}
 use Rattle.mm_save.proofs.Saving.FileSpans.{theorem_there, theorems_passed}
@@ -59,6 +69,31 @@ put_for_tree statements told id index s steps t old put same made holds =
     (sym made.whole)
     (here index s made.moves made.number made.numbered made.label made.below made.made))
 
+-- the small proof of a shorter tree is put
+put_shorter : (c : Conclusion) (duplicates : Bool) (statements : List PlainStatement)
+    (label : List ℕ) (theorem : Theorem) (own : OwnProof) (new : Shorter) (old put : List ℕ)
+    → c.sentences ≡ sentences statements → IsSmallOf statements label own.text.items
+    → IsFound c.profile c.files statements label theorem own new
+    → new.theorem.id.0 ≡ theorem.id.0 → (duplicates ≡ true) ⊎ (new.is_duplicate ≡ false)
+    → IsSpanTextOf Small c.sentences new.theorem.id.0 new.theorem.steps.moves old put
+    → IsPutShorter c.profile duplicates c.files statements label old put
+put_shorter c duplicates statements label theorem own new old put told small f same chosen laid =
+    record {
+      own = own.text.items;
+      is_own = small;
+      t = f.t;
+      text = new.proof.text.items;
+      shorter = f.shorter;
+      chosen = elim chosen [
+        | inl all ↦ inl all
+        | inr other ↦ inr (λ alone. let told = f.alone.1 alone in absurd cc)
+      ];
+      laid = put_for_tree statements c.sentences f.shorter.id f.shorter.index
+          (sentence_of f.shorter.s) new.theorem.steps.moves f.t old put told f.made
+          (subst (λ (n : ℕ). IsSpanTextOf Small c.sentences n new.theorem.steps.moves old put)
+          (same ∙ sym f.number) laid);
+    }
+
 -- the shorter proof
 pub stands_shorter : (c : Conclusion) (duplicates : Bool) (id : ℕ) (s : PlainStatement)
     (both : Compared) (old put bytes : List ℕ) → HasForm s → is_proof s ≡ true
@@ -71,29 +106,15 @@ stands_shorter c duplicates id s both old put bytes formed complete h chosen lai
     let provable = provable_proof s complete in
     let (label, named) = label_there s formed provable in
     let f = h.found label named statements reads in
-    let number : both.new.theorem.id.0 ≡ f.shorter.id = h.number ∙ sym (f.number ∙ h.same) in
-    let put_there = put_for_tree statements c.sentences f.shorter.id f.shorter.index
-    (sentence_of f.shorter.s) both.new.theorem.steps.moves f.t old put (h.told statements reads)
-    f.made (subst (λ (n : ℕ). IsSpanTextOf Small c.sentences n both.new.theorem.steps.moves old put)
-    number laid) in (
+    let put_there = put_shorter c duplicates statements label h.old both.own both.new old put
+    (h.told statements reads) (h.own_text label named statements reads) f (h.number ∙ sym h.same)
+    chosen laid in (
       refl,
       inr (
         label,
         named,
-        record {
-          own = both.own.text.items;
-          is_own = h.own_text label named statements reads;
-          t = f.t;
-          text = both.new.proof.text.items;
-          shorter = f.shorter;
-          chosen = elim chosen [
-            | inl all ↦ inl all
-            | inr other ↦ inr (λ alone. let told = f.alone.1 alone in absurd cc)
-          ];
-          laid = subst (λ (o : List ℕ). IsSpanText Small
-              (sentences (take f.shorter.index statements)) (sentence_of f.shorter.s) f.t o put)
-              stands put_there;
-        },
+        subst (λ (o : List ℕ). IsPutShorter c.profile duplicates c.files statements label o put)
+            stands put_there,
       ),
     )
 
@@ -132,6 +153,65 @@ found_stands c duplicates id s (Some both) old put bytes formed complete h text 
           (text.0 wanted) stands statements reads
       | inr unwanted ↦ (refl, inl (text.1 unwanted ∙ stands))
     ]
+
+-- ==== the file of one theorem
+
+-- a shorter proof of the theorem may be written
+pub compared_written : (c : Conclusion) (theorem : Theorem) (found : Option Compared)
+    → IfSome found (AreCompared c theorem) → IfSome found (MayBeWritten c)
+compared_written c theorem None h = tt
+compared_written c theorem (Some both) h =
+    let handed = subst (λ (n : ℕ). AreHanded c.profile c.sentences n both.new.theorem.steps
+    both.new.used) (sym h.anew.number) h.anew.handed in
+    (handed.usable, handed.proved, handed.whole)
+
+module _ (c : Conclusion) (statements : List PlainStatement) (label : List ℕ) (theorem : Theorem)
+    (reads : Reads c.files statements None) (same : c.sentences ≡ sentences statements)
+    (r : AreStepsOf statements label theorem.id.0 theorem.steps.moves)
+    (proved : AreProvedSteps c.sentences theorem.id.0 theorem.steps) where
+  -- the old bytes stay, or it is put
+  put_or_kept : (found : Option Compared) (old put : List ℕ) → IfSome found (AreCompared c theorem)
+      → IsTextOfFound c true found old put
+      → (put ≡ old) ⊎ IsPutShorter c.profile true c.files statements label old put
+  put_or_kept None old put h text = inl text
+  put_or_kept (Some both) old put h text =
+      inr (put_shorter c true statements label theorem both.own both.new old put same
+      (small_of statements c.sentences label theorem both.own same r proved h.own)
+      (h.found label statements reads r) h.anew.number (inl refl) (text.0 (inl refl)))
+
+  -- and so is the file
+  pub one_shortened : (found : Option Compared) (bytes : List ℕ)
+      → IsHomeOf statements label theorem.file theorem.span
+      → IfSome found (AreCompared c theorem) → IsFileOfFound c theorem found bytes
+      → IsOneShortened c.profile c.files statements label bytes
+  one_shortened found bytes home h (old, put, stood, text, new) =
+      let at = home r.s (r.index, r.there, r.named) in
+      let file : stood.0 ≡ new.0 = same_Some stood.0 new.0 (sym stood.1 ∙ new.1) in
+      let place : old ≡ within_span new.0.bytes r.s.span =
+      stood.2 ∙ (λ i. within_span (file i).bytes (at.1 i)) in
+      record {
+        index = r.index;
+        s = r.s;
+        there = r.there;
+        named = r.named;
+        complete = r.complete;
+        file = new.0;
+        handed = ap (slice_get c.files) (sym at.0) ∙ new.1;
+        new = record { span = r.s.span; text = put };
+        shortened = (
+          refl,
+          elim (put_or_kept found old put h text) [
+            | inl kept ↦ inl (kept ∙ place)
+            | inr shorter ↦ inr (
+              label,
+              r.named,
+              subst (λ (o : List ℕ). IsPutShorter c.profile true c.files statements label o put)
+                  place shorter,
+            )
+          ],
+        );
+        whole = new.2 ∙ ap (λ (p : ℕ × ℕ). with_span new.0.bytes p put) at.1;
+      }
 
 -- ==== the file, theorem by theorem
 

@@ -16,7 +16,7 @@ use Rattle.mm_base.specs.Token.{PlainToken, plain_token}
 use Rattle.mm_text.proofs.Reader.WholeReadings.{readings_are_formed_in_place}
 use Rattle.std.proofs.lemmas.Slice.{between_is}
 use Rattle.mm_text.specs.Files.{PlainFile, plain_file}
-use Rattle.mm_text.specs.Reading.{Reads, IsInPlace}
+use Rattle.mm_text.specs.Reading.{PlainFault, Reads, IsInPlace}
 use Rattle.mm_text.specs.Remaining.{ReadsOn, Remaining}
 use Rattle.mm_text.specs.Remarks.{headings, is_heading, mathbox_at, IsSaidBefore}
 use Rattle.mm_base.proofs.Lists.{all_at, get_before, get_parted, get_pushed, get_set_cases}
@@ -33,7 +33,7 @@ use Rattle.mm_rules.specs.Rests.{IsAt}
 use Rattle.mm_render.specs.Shorter.{home_bytes, proof_mark, usage_mark}
 use Rattle.mm_rules.specs.Verdict.{sentences}
 use Rattle.mm_rules.specs.Mirror.Marks.{IsKeptFrom}
-use Rattle.mm_minimize.specs.Mirror.Shortening.{AreRemarks, AreRemarksOf, IsRemarkOf}
+use Rattle.mm_minimize.specs.Remarks.{AreRemarks, AreRemarksOf, IsRemarkOf}
 use Rattle.mm_minimize.specs.Mirror.Shortening.{ArePassed, IsPassed}
 
 -- ---- mathboxes
@@ -106,12 +106,13 @@ remark_said files s d file mathbox discouraged settled there is marked kept =
 -- ---- positions that were passed
 
 -- it begins in one of the files, before that one's end
-pub begins_within : (files : List PlainFile) (statements : List PlainStatement) (index : ℕ)
-    (s : PlainStatement) → Reads files statements None → slice_get statements index ≡ Some s
+pub begins_within : (files : List PlainFile) (statements : List PlainStatement)
+    (ending : Option PlainFault) (index : ℕ) (s : PlainStatement)
+    → Reads files statements ending → slice_get statements index ≡ Some s
     → (file : PlainFile) × (slice_get files s.first.file ≡ Some file)
     × (s.first.at < length file.bytes)
-begins_within files statements index s reads there =
-    let all = readings_are_formed_in_place files statements None reads in
+begins_within files statements ending index s reads there =
+    let all = readings_are_formed_in_place files statements ending reads in
     let form = all_at HasForm statements index s all.formed there in
     let place = all_at (IsInPlace files) statements index s all.in_place there in
     let (file, found, slice) = place.first in
@@ -290,7 +291,7 @@ pub next_begins : (files : List PlainFile) (all : List PlainStatement) (left new
 next_begins files all left new passed remarks s reads h taken =
     let whole : all ≡ h.seen ++ s ∷ new.statements =
     h.whole ∙ ap (λ (ss : List PlainStatement). h.seen ++ ss) taken.0 in
-    begins_within files all (length h.seen) s reads
+    begins_within files all None (length h.seen) s reads
     (subst (λ (ss : List PlainStatement). slice_get ss (length h.seen) ≡ Some s) (sym whole)
     (get_parted h.seen new.statements s))
 

@@ -10,6 +10,8 @@ use Rattle.mm_step.specs.Steps.{AreSteps}
 use Rattle.mm_render.specs.declared.forms.OwnProof.{OwnProof}
 use Rattle.mm_minimize.specs.declared.proof_pair.Compared.{Compared}
 use Rattle.mm_minimize.specs.declared.shorter_list.Listing.{Listing}
+use Rattle.mm_minimize.specs.declared.search_watch.Searched.{Searched}
+use Rattle.mm_minimize.specs.declared.search_watch.Searched.TheVariants.{NoneShorter}
 use Rattle.mm_minimize.specs.declared.sizes.Sizes.{Sizes}
 use Rattle.mm_minimize.specs.declared.shorter_list.Sums.{Sums}
 use Rattle.mm_save.specs.declared.save_all.NewFile.{NewFile}
@@ -25,10 +27,11 @@ use Rattle.mm_rules.specs.Verdict.{sentences}
 use Rattle.mm_rules.specs.Conclusion.{Conclusion}
 use Rattle.mm_save.specs.Mirror.AllSaving.{AreReplacedSoFar, IsTakenSoFar, PutsText, replacement}
 use Rattle.mm_verdict.specs.Mirror.Rereading.{label_count}
-use Rattle.mm_verdict.specs.Mirror.Theorems.{AreProvedSteps}
-use Rattle.mm_render.specs.Mirror.Rewriting.{IsSpanTextOf}
-use Rattle.mm_render.specs.Mirror.Shortening.{AreHanded}
-use Rattle.mm_minimize.specs.Mirror.Shortening.{AreNewlyUsed, IsFound}
+use Rattle.mm_verdict.specs.Mirror.Theorems.{AreProvedSteps, AreStepsOf}
+use Rattle.mm_render.specs.Mirror.Rewriting.{IsPutIn, IsSpanTextOf, StandIn}
+use Rattle.mm_render.specs.Mirror.Shortening.{AreHanded, IsOwnProof}
+use Rattle.mm_minimize.specs.Mirror.Shortening.{AreNewlyUsed, IsFound, IsProvedAnew}
+use Rattle.mm_minimize.specs.Mirror.Shortening.{IsSearchedFor}
 
 -- ---- a file with shorter proofs
 
@@ -64,6 +67,14 @@ IsTextOfFound c duplicates (Some both) old put =
     (IsWanted duplicates both.new → IsSpanTextOf Small c.sentences both.new.theorem.id.0
     both.new.theorem.steps.moves old put)
     × (¬ (IsWanted duplicates both.new) → put ≡ old)
+
+-- The bytes are those of the file in which the theorem stands, with this in place of its proof,
+-- where this was found.
+abbrev pub IsFileOfFound : Conclusion → Theorem → Option Compared → (bytes : List ℕ) → Type 0
+IsFileOfFound c theorem found bytes =
+    (old : List ℕ) × (put : List ℕ) × StandIn c.files theorem.file theorem.span old
+    × IsTextOfFound c true found old put
+    × IsPutIn c.files theorem.file theorem.span put bytes
 
 -- the bytes up to the proof of the theorem were taken, and then what may stand in its place was put
 pub record PutsShorter (c : Conclusion) (duplicates : Bool) (s : PlainStatement)
@@ -103,6 +114,19 @@ pub record IsShorterOf (c : Conclusion) (id : ℕ) (s : PlainStatement) (own : O
   pub found : (label : List ℕ) → IsLabelled label (sentence_of s)
       → (statements : List PlainStatement) → Reads c.files statements None
       → IsFound c.profile c.files statements label old own new
+
+-- the other proof is a shorter one of the theorem, beside its own
+pub record AreCompared (c : Conclusion) (theorem : Theorem) (both : Compared) : Type 0 where
+  pub own : IsOwnProof c.sentences theorem.id.0 theorem.steps.moves both.own
+  pub anew : IsProvedAnew c.profile c.sentences theorem both.new
+  pub found : (label : List ℕ) (statements : List PlainStatement) → Reads c.files statements None
+      → AreStepsOf statements label theorem.id.0 theorem.steps.moves
+      → IsFound c.profile c.files statements label theorem both.own both.new
+
+-- the search for a shorter proof came to this, where this was found
+abbrev pub IsSearchedBeside : Option Compared → Searched → Type 0
+IsSearchedBeside (Some both) searched = IsSearchedFor both.own (Some both.new) searched
+IsSearchedBeside None searched = searched ≡ NoneShorter
 
 -- so it is, where one is found
 abbrev pub IsShorterFor : Conclusion → (id : ℕ) → PlainStatement → Compared → Type 0

@@ -16,7 +16,6 @@ use Rattle.mm_step.specs.Tree.{Trees, none, tree}
 use Rattle.mm_proof.specs.Used.{AreUsed}
 use Rattle.mm_render.specs.declared.forms.OwnProof.{OwnProof}
 use Rattle.mm_minimize.specs.declared.remarks.Passed.{Passed}
-use Rattle.mm_minimize.specs.declared.remarks.Remark.{Remark}
 use Rattle.mm_minimize.specs.declared.search_watch.Searched.{Searched}
 use Rattle.mm_minimize.specs.declared.search_watch.Searched.TheVariants.{NoneShorter}
 use Rattle.mm_minimize.specs.declared.search_watch.Searched.TheVariants as of_search
@@ -26,35 +25,16 @@ use Rattle.mm_minimize.specs.declared.shortening.Shortening.{Shortening}
 use Rattle.mm_render.specs.declared.shorter.Handed.{Handed}
 use Rattle.mm_verdict.specs.declared.theorem.Theorem.{Theorem}
 use Rattle.mm_minimize.specs.AllShorter.{AreOfOneKind, IsByOneAlone}
+use Rattle.mm_minimize.specs.Remarks.{AreRemarks}
 use Rattle.mm_rules.specs.Conclusion.{Conclusion}
 use Rattle.mm_rules.specs.Rests.{AreInOrder, IsAt, RestsOn, Uses}
 use Rattle.mm_render.specs.Shorter.{MayUse, IsUnfounded, RestsThrough, IsShorterTree}
-use Rattle.mm_render.specs.Shorter.{IsMarkedWith, mathbox_of, proof_mark, usage_mark}
+use Rattle.mm_render.specs.Shorter.{IsMarkedWith, proof_mark}
 use Rattle.mm_rules.specs.Verdict.{sentences}
 use Rattle.mm_axioms.specs.Mirror.Tables.{AreTables}
 use Rattle.mm_render.specs.Mirror.Shortening.{AreHanded}
 
--- ---- what is said of statements
-
--- this is said of the statement where it stands
-pub record IsRemarkOf (files : List PlainFile) (s : PlainStatement) (r : Remark) : Type 0 where
-  pub file : r.file ≡ s.first.file
-  pub mathbox : r.mathbox ≡ mathbox_of files s
-  pub discouraged : (r.is_discouraged ≡ true) ↔ IsMarkedWith usage_mark files s
-  pub settled : (r.is_settled ≡ true) ↔ IsMarkedWith proof_mark files s
-
--- the remarks are those of the labelled statements, by number
-pub record AreRemarksOf (files : List PlainFile) (statements : List PlainStatement)
-    (remarks : List Remark) : Type 0 where
-  pub count : length remarks ≡ length (labelled_sentences (sentences statements))
-  pub each : (n index : ℕ) (s : PlainStatement) (r : Remark) → IsAt statements n index s
-      → slice_get remarks n ≡ Some r → IsRemarkOf files s r
-
--- the same, in any reading of the files
-abbrev pub AreRemarks : List PlainFile → List Remark → Type 0
-AreRemarks files remarks =
-    (statements : List PlainStatement) → Reads files statements None
-    → AreRemarksOf files statements remarks
+-- ---- what is known of statements
 
 -- the position lies in the mathbox, and in the file
 pub record IsPassed (bytes : List ℕ) (p : Passed) : Type 0 where

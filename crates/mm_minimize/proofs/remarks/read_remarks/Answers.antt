@@ -42,8 +42,8 @@ loop-remarks-preserved c =
     c.loop-remarks.remarks.items s c.loop-remarks.invariant taken
     (label_kept c.more.new.into.label ∙ sym c.is_some.ensures ∙ c.if-is_some.false)
 
-pub returns-clause-remarks : goal.returns-clause-remarks
-returns-clause-remarks c =
+pub returns : goal.returns
+returns c =
     let s : PlainStatement = plain_statement c.more.new.into in
     let taken : ReadsOn c.loop-remarks.statements false s c.more.new.self =
     subst (λ (b : Bool). ReadsOn c.loop-remarks.statements b s c.more.new.self) c.if-branch.false c.in_ok-more.ensures.on in
