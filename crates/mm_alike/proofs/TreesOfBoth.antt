@@ -2,7 +2,7 @@
 -- over as many trees in both; and of one tree the fully shared moves are the same in both. On this
 -- file rest the contracts of `trees`.
 use Rattle.std.proofs.Common.{◌≡◌, ℕ, List, [], ◌∷◌, take, Some, refl, sym, ap}
-use Rattle.std.proofs.Common.{subst, ◌∙◌, arith}
+use Rattle.std.proofs.Common.{subst, ◌∙◌}
 use Rattle.std.specs.List.{AllByRecursion, AllZip}
 use Rattle.std.proofs.lemmas.Option.{same_Some}
 use Rattle.mm_frame.specs.Rules.{AllMeant}
@@ -10,7 +10,7 @@ use Rattle.mm_frame.specs.Sentence.{Sentence}
 use Rattle.mm_step.specs.Moves.{Move, name, again, mark, Makes}
 use Rattle.mm_step.specs.Steps.{IsNumberedMove, AreNumberedMoves}
 use Rattle.mm_step.specs.Tree.{Trees, none, tree, beside, roots, MayStandOver, TreesFit}
-use Rattle.mm_step.proofs.ProofSteps.Derivations.{roots-beside, makes_once}
+use Rattle.mm_step.proofs.ProofSteps.Derivations.{makes_once, one_row_end}
 use Rattle.mm_forms.specs.BigSubtrees.{IsBig}
 use Rattle.mm_forms.specs.OneTree.{MakeTree}
 use Rattle.mm_forms.specs.Sharing.{ShareThose, MakeOnce, KeepMade}
@@ -21,19 +21,6 @@ use Rattle.mm_forms.proofs.PackedProofs.SubtreeNumbers.{one_label_of}
 use Rattle.mm_forms.proofs.TreeBuilding.TreeWords.{fit_apart, fit_beside, made_word}
 use Rattle.mm_alike.specs.Mirror.Steps.{AreSameMoves, IsSameMove, MakeTreeInBoth}
 use Rattle.mm_alike.proofs.WidthsInBoth.{stands_width, width_stands}
-
--- ---- rows of trees
-
--- a row parts in one way only into a prefix and an end of known width
-row_split : (a b c d : Trees) → beside a b ≡ beside c d → roots a ≡ roots c → (a ≡ c) × (b ≡ d)
-row_split none b none d e n = (refl, e)
-row_split (tree l a r) b (tree m c s) d e n =
-    let k = row_split r b s d (cc e) (omega arith) in (cc (e, k.0), k.1)
-row_split a b c d e n = absurd (omega arith)
-
-row_end : (a b c d : Trees) → beside a b ≡ beside c d → roots b ≡ roots d → (a ≡ c) × (b ≡ d)
-row_end a b c d e n =
-    row_split a b c d e (omega (arith, roots-beside a b, roots-beside c d, ap roots e))
 
 module _ (one other : List Sentence) where
   -- ---- what is made after the one is made after the other
@@ -136,7 +123,7 @@ module _ (one other : List Sentence) where
   made_in_both (name label ∷ moves) row a b kept k l wide m n =
       let p = m.2 in
       let q = n.2 in
-      let parts = row_end p.0 p.1 q.0 q.1 (sym p.2 ∙ q.2) (wide.0 p.1 q.1 p.3 q.3) in
+      let parts = one_row_end p.0 p.1 q.0 q.1 (sym p.2 ∙ q.2) (wide.0 p.1 q.1 p.3 q.3) in
       let next : m.0 ≡ n.0 = cc (p.4, q.4, parts.0, parts.1) in
       let more : m.1 ≡ n.1 = cc (p.5, q.5) in
       made_in_both moves n.0 a b n.1 k l wide.1 (rw (← next, ← more) m.3) n.3
@@ -150,7 +137,7 @@ module _ (one other : List Sentence) where
   made_in_both (mark ∷ moves) row a b kept k l wide m n =
       let p = m.2 in
       let q = n.2 in
-      let parts = row_end p.0 (tree p.1 p.2 none) q.0 (tree q.1 q.2 none) (sym p.3 ∙ q.3) refl in
+      let parts = one_row_end p.0 (tree p.1 p.2 none) q.0 (tree q.1 q.2 none) (sym p.3 ∙ q.3) refl in
       let next : m.0 ≡ n.0 = cc (p.4, q.4) in
       let more : m.1 ≡ n.1 = cc (p.5, q.5, parts.1) in
       made_in_both moves n.0 a b n.1 k l wide.1 (rw (← next, ← more) m.3) n.3

@@ -1,6 +1,6 @@
-//! What comments say of statements: marks, and mathboxes.
+//! What stands in comments before statements: which comment that is, marks, and mathboxes.
 
-use mm_text::{headings_between, mathbox_at, says_before};
+use mm_text::{comment_before, headings_between, mathbox_at, says_before};
 use std::test::Fail;
 
 const USAGE: &[u8] = b"(New usage is discouraged.)";
@@ -32,6 +32,22 @@ fn reads_marks(rt: HostRuntime) -> Result<(), Fail> {
             wanted,
             "at {bytes:?}"
         );
+    }
+    Ok(())
+}
+
+#[test]
+fn finds_comments(rt: HostRuntime) -> Result<(), Fail> {
+    for (bytes, wanted) in [
+        (b"$( A. $) ax".as_slice(), Some((0, 6))),
+        (b"$( A. $) $( B.\r\n $)\r\n\tax".as_slice(), Some((9, 17))),
+        (b"$( A. $) ax $a x $. ax".as_slice(), None),
+        (b"$( A. $) ${ ax".as_slice(), None),
+        (b" ax".as_slice(), None),
+    ] {
+        assert!(rt; bytes.len() >= 2);
+        let found = comment_before(bytes, bytes.len() - 2);
+        assert!(rt; found == wanted, "at {bytes:?}");
     }
     Ok(())
 }

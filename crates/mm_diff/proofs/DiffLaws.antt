@@ -28,7 +28,7 @@ use Rattle.mm_diff.specs.Laws.{HaveSameTrees, TellsNothing}
 use Rattle.mm_alike.proofs.DifferingNumbers.{one_number}
 use Rattle.mm_diff.proofs.FurtherAxioms.{none_so}
 use Rattle.mm_diff.proofs.ToldDependences.{flipped, further_carries, less_carries, never_further}
-use Rattle.mm_diff.proofs.MovedPlaces.{one_index}
+use Rattle.mm_rules.proofs.RisingNumbers.{rising_once}
 
 -- an assertion says what it says
 alike_itself : (st : List Sentence) (id index : ℕ) (s : Sentence) → IsNumbered st id index s
@@ -84,7 +84,7 @@ one_place st id was is meant
     ((own, order, there), label, named, former, named_too, (own_too, order_too, there_too)) =
     let same : own_too ≡ own = in_order_once (IsShared st st) own_too own order_too order in
     let one : former ≡ id = one_number st label former id meant named_too named in
-    one_index own was is id order.rising
+    rising_once own was is id order.rising
     (subst (λ (ids : List ℕ). slice_get ids was ≡ Some id) same
     (subst (λ (k : ℕ). slice_get own_too was ≡ Some k) one there_too)) there
 

@@ -1,7 +1,7 @@
 -- Axioms on which theorems depend in one database alone, and what is told of them. On this file rest
 -- the contracts of `depends`.
 use Rattle.std.proofs.Common.{◌≡◌, ℕ, ◌+◌, ◌<◌, ◌≤◌, List, [], ◌∷◌, ◌++◌, map, take, length}
-use Rattle.std.proofs.Common.{slice_get, Contains, Option, Some, inl, inr, refl, sym, ap}
+use Rattle.std.proofs.Common.{slice_get, Contains, Option, Some, inl, inr, refl, sym}
 use Rattle.std.proofs.Common.{subst, ◌∙◌, append-nil, Bool}
 use Rattle.std.specs.List.{AllByRecursion}
 use Rattle.std.proofs.lemmas.List.{map-append, take_all}

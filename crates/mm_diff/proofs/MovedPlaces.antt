@@ -4,7 +4,7 @@ use Rattle.std.proofs.Common.{◌≡◌, ◌⊎◌, ℕ, zero, suc, ◌+◌, ◌
 use Rattle.std.proofs.Common.{length, get_or, slice_get, Some, inl, inr, refl, sym, ap}
 use Rattle.std.proofs.Common.{subst, ◌∙◌, arith, min, ◌^◌}
 use Rattle.std.specs.List.{AllZip}
-use Rattle.std.proofs.lemmas.Bool.{cases_eq, cases_lt}
+use Rattle.std.proofs.lemmas.Bool.{cases_eq}
 use Rattle.std.proofs.lemmas.List.{length-map, map-append, take_more}
 use Rattle.std.proofs.lemmas.Option.{same_Some, slice_get-get_or, slice_get_within}
 use Rattle.std.proofs.lemmas.Slice.Zip.{AllZip-long, all_zipped_more}
@@ -15,6 +15,7 @@ use Rattle.mm_frame.specs.Rules.{AllMeant}
 use Rattle.mm_frame.specs.Sentence.{Sentence}
 use Rattle.mm_frame.proofs.Names.NameNumbers.{get_mapped, get_unmapped}
 use Rattle.mm_step.specs.Plain.{ids_in}
+use Rattle.mm_rules.proofs.RisingNumbers.{rising_once}
 use Rattle.mm_rules.specs.Rests.{AreInOrder, AreRising}
 use Rattle.mm_rules.proofs.Numbers.{in_order_same}
 use Rattle.mm_rules.proofs.OrderedNumbers.{in_order_once, passed, taken}
@@ -56,18 +57,6 @@ pub end_passed : (k at reach middle end other : ℕ) → middle ≡ min (at + re
     → k ≤ at + reach + reach → k < other
 end_passed k at reach middle end other first second past fits within = omega arith
 
--- ---- indices of rising numbers
-
-pub one_index : (ids : List ℕ) (i j x : ℕ) → AreRising ids → slice_get ids i ≡ Some x
-    → slice_get ids j ≡ Some x → i ≡ j
-one_index ids i j x rising here there = elim (cases_lt i j) [
-  | inl less ↦ absurd (let more = rising i j x x less here there in omega arith)
-  | inr past ↦ elim (cases_eq i j) [
-    | inl same ↦ same
-    | inr other ↦ absurd (let more = rising j i x x (omega arith) there here in omega arith)
-  ]
-]
-
 -- ---- those that are so at their index
 
 -- those before an index
@@ -108,7 +97,7 @@ module _ (P : ℕ → Type 0) (ids : List LabelId) (those more : List LabelId) (
       (λ n. (at : ℕ) × (at < i + 1) × (slice_get (ids_in ids) at ≡ Some n) × P at) (ids_in those)
       x.0 so_far
       (λ (at, less, stands, h). none (subst P
-      (one_index (ids_in ids) at i x.0 rising stands here) h))
+      (rising_once (ids_in ids) at i x.0 rising stands here) h))
       (λ n (at, less, stands, h). (at, omega arith, stands, h))
       last_or_before)
 
@@ -202,7 +191,7 @@ module _ (old new : List Sentence) (meant : AllMeant old) (before : List ℕ) (i
       one_number old label one former meant
       (subst (λ (l : List ℕ). IsAssertionNamed old l one) equal has_too) named_too in
       let spot : place ≡ was =
-      one_index before place was former olds.rising
+      rising_once before place was former olds.rising
       (subst (λ (k : ℕ). slice_get before place ≡ Some k) again at_place) here_too in
       (here, told ∙ ap (λ (p : ℕ). Some p) spot)
 

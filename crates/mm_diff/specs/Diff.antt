@@ -14,7 +14,7 @@ use Rattle.mm_base.specs.Statement.{PlainStatement}
 use Rattle.mm_frame.specs.Sentence.{Sentence}
 use Rattle.mm_rules.specs.Answer.{labels_at}
 use Rattle.mm_rules.specs.Conclusion.{labels_in}
-use Rattle.mm_rules.specs.Rests.{AreInOrder, HasTree, IsNumberWhere, RestsOn, Uses}
+use Rattle.mm_rules.specs.Rests.{AreInOrder, IsNumberWhere, RestsOn, Uses}
 use Rattle.mm_rules.specs.Verdict.{sentences}
 use Rattle.mm_verdict.specs.Reply.{line_with}
 use Rattle.mm_alike.specs.Alike.{IsAssertionNamed, said, AreAlike, IsAlone, IsChanged, IsReproved, IsShared}

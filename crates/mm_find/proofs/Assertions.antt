@@ -1,13 +1,13 @@
 -- What the assertion states that was taken last: its frame is that of its number, and its essential
 -- hypotheses are those without a typing. On this file rests the contract of `assertion_at`.
-use Rattle.std.proofs.Common.{◌≡◌, ℕ, suc, ◌+◌, ◌<◌, ◌≤◌, List, [], ◌∷◌, ◌++◌, map, take, length}
+use Rattle.std.proofs.Common.{◌≡◌, ℕ, suc, ◌+◌, ◌<◌, List, [], ◌∷◌, ◌++◌, map, take, length}
 use Rattle.std.proofs.Common.{slice_get, filter}
-use Rattle.std.proofs.Common.{Bool, true, false, cond, Option, Some, None, option_map, is_some}
+use Rattle.std.proofs.Common.{Bool, true, false, cond, Option, Some, option_map, is_some}
 use Rattle.std.proofs.Common.{get_or}
 use Rattle.std.proofs.Common.{inl, inr, refl, sym, ap, subst, ◌∙◌, append-nil, arith}
 use Rattle.std.specs.Global.{Vec}
 use denote.Ref.{Bor}
-use Rattle.std.proofs.lemmas.List.{map-append, length-map, take_all, take_more}
+use Rattle.std.proofs.lemmas.List.{map-append, take_more}
 use Rattle.std.proofs.lemmas.Grind.{flat_map-append}
 use Rattle.std.proofs.lemmas.List.Elements.{filter-append}
 use Rattle.std.proofs.lemmas.Option.{slice_get-get_or, slice_get_within}
@@ -15,24 +15,23 @@ use Rattle.mm_base.specs.declared.statement.Kind.{Kind}
 use Rattle.mm_base.specs.declared.statement.Kind.TheVariants as kinds
 use Rattle.mm_base.specs.Token.{PlainToken}
 use Rattle.mm_base.specs.Statement.{PlainStatement, HasLabel}
-use Rattle.mm_base.proofs.Lists.{one_there, same_length, take_next}
+use Rattle.mm_base.proofs.Lists.{one_there, take_next}
 use Rattle.mm_frame.specs.declared.answer.Taken.{Taken}
 use Rattle.mm_frame.specs.declared.answer.Taken.TheVariants as taken
 use Rattle.mm_frame.specs.declared.hypothesis.Hypothesis.{Hypothesis}
 use Rattle.mm_frame.specs.declared.number.LabelId.{LabelId}
 use Rattle.mm_frame.specs.declared.number.Sym.{Sym}
 use Rattle.mm_frame.specs.Frame.{AreMandatory}
-use Rattle.mm_frame.specs.FrameIndex.{FrameIndex, AreHypotheses, HasTyping, HaveTypings, IsTypingOf}
+use Rattle.mm_frame.specs.FrameIndex.{FrameIndex, AreHypotheses, HaveTypings}
 use Rattle.mm_frame.specs.Numbers.{IsNumbered, labelled_sentences}
-use Rattle.mm_frame.specs.Sentence.{Sentence, sentence_of, IsAssertion}
+use Rattle.mm_frame.specs.Sentence.{Sentence, sentence_of, IsAssertion, is_essential}
 use Rattle.mm_frame.specs.Taken.{TakenAs, next_id}
+use Rattle.mm_frame.proofs.Frames.EssentialHypotheses.{hypothesis_there, essential_kind}
 use Rattle.mm_frame.proofs.Names.LabelNumbers.{numbered_get, numbered_last, numbered_unique}
-use Rattle.mm_frame.proofs.Names.NameNumbers.{get_alike, get_mapped}
 use Rattle.mm_step.specs.Stores.{numbers_in}
 use Rattle.mm_rules.specs.Answer.{labels_at}
 use Rattle.mm_rules.proofs.Judgements.JudgedProofs.{prefix_of}
 use Rattle.mm_code.specs.Layout.{texts}
-use Rattle.mm_find.specs.Found.{is_essential}
 use Rattle.mm_find.specs.Plain.{expressions_in}
 use Rattle.mm_find.specs.Mirror.Walk.{IsLast, IsTakenLast}
 
@@ -120,38 +119,6 @@ module _ (st : List Sentence) (id : ℕ) (before : List Sentence) (s : Sentence)
 
 -- ---- its essential hypotheses
 
--- what stands behind a hypothesis at an index
-pub hypothesis_there : (all : List Sentence) (hypotheses : List Hypothesis) (stated : List Sentence)
-    (i : ℕ) (d : Hypothesis) → map (slice_get all) (map (λ h. h.id.0) hypotheses) ≡ map Some stated
-    → i < length hypotheses
-    → (s : Sentence) × (slice_get stated i ≡ Some s) × (slice_get all (get_or hypotheses i d).id.0
-    ≡ Some s)
-hypothesis_there all hypotheses stated i d same less =
-    let number : Hypothesis → ℕ = λ h. h.id.0 in
-    let at = get_mapped number hypotheses i (get_or hypotheses i d)
-    (slice_get-get_or hypotheses i d less) in
-    let (s, there, is) = get_alike (slice_get all) (λ (t : Sentence). Some t)
-    (map number hypotheses) stated i
-    (number (get_or hypotheses i d)) same at in
-    (s, there, sym is)
-
--- by whether it has a typing
-typed_kind : (st : List Sentence) (typing : Option (Sym × Sym)) (s : Sentence)
-    → IsTypingOf st typing s
-    → (is_some typing ≡ false → is_essential s.kind ≡ true)
-    × (is_some typing ≡ true → is_essential s.kind ≡ false)
-typed_kind st None s is = ((λ e. ap is_essential is), (λ e. absurd cc))
-typed_kind st (Some typing) s (code, x, types, at_code, at_x) =
-    ((λ e. absurd cc), (λ e. ap is_essential types.0))
-
-essential_kind : (st : List Sentence) (h : Hypothesis) (s : Sentence) → HasTyping st h
-    → slice_get (labelled_sentences st) h.id.0 ≡ Some s
-    → (is_some h.typing ≡ false → is_essential s.kind ≡ true)
-    × (is_some h.typing ≡ true → is_essential s.kind ≡ false)
-essential_kind st h s (t, there, typing) at =
-    let same : t ≡ s = one_there (labelled_sentences st) h.id.0 t s there at in
-    typed_kind st h.typing s (subst (IsTypingOf st h.typing) same typing)
-
 -- one hypothesis more
 abbrev pub stated_expressions : List Sentence → List (List (List ℕ))
 stated_expressions stated = map (λ h. h.symbols) (filter (λ h. is_essential h.kind) stated)
@@ -231,18 +198,3 @@ names_next names symbols i d so_far next own is pushed less told =
     rw (take_more symbols i d less) (simp (map-append, flat_map-append, is, append-nil)) in
     ap texts pushed ∙ map-append (λ (t : Bor (List ℕ)). t.now) so_far (own ∷ [])
     ∙ ap (λ (es : List (List ℕ)). es ++ own.now ∷ []) told ∙ sym later
-
--- all hypotheses
-pub all_taken : (all : List Sentence) (hypotheses : List Hypothesis) (stated : List Sentence)
-    (i : ℕ)
-    → map (slice_get all) (map (λ h. h.id.0) hypotheses) ≡ map Some stated
-    → length hypotheses ≤ i → take i stated ≡ stated
-all_taken all hypotheses stated i are end =
-    take_all i stated
-    (omega (
-      arith,
-      same_length (slice_get all) (λ (s : Sentence). Some s)
-          (map (λ (h : Hypothesis). h.id.0) hypotheses) stated are,
-      length-map hypotheses (λ (h : Hypothesis). h.id.0),
-      end,
-    ))

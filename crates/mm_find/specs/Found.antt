@@ -5,12 +5,11 @@ use Rattle.std.specs.Prelude.{◌≡◌, ◌⊎◌, ℕ, List, [], ◌∷◌, �
 use Rattle.std.specs.List.{AllByRecursion}
 use Rattle.std.specs.Prelude.{codes, Bool, true, false, Option, Some, None}
 use Rattle.mm_base.specs.declared.statement.Kind.{Kind}
-use Rattle.mm_base.specs.declared.statement.Kind.TheVariants.{Essential}
 use Rattle.mm_base.specs.Statement.{PlainStatement, keyword_of}
 use Rattle.mm_text.specs.declared.fault.LoadRule.{LoadRule}
 use Rattle.mm_text.specs.Files.{PlainFile, BreaksLoad}
 use Rattle.mm_text.specs.Reading.{PlainFault, Reads}
-use Rattle.mm_frame.specs.Sentence.{Sentence, IsAssertion, IsLabelled}
+use Rattle.mm_frame.specs.Sentence.{Sentence, IsAssertion, IsLabelled, is_essential}
 use Rattle.mm_frame.specs.Frame.{AreMandatory}
 use Rattle.mm_frame.specs.Rules.{AllMeant}
 use Rattle.mm_rules.specs.Shown.{symbols_text}
@@ -33,10 +32,6 @@ pub record PlainAssertion : Type 0 where
   pub kind : Kind
   pub hypotheses : List (List (List ℕ))
   pub expression : List (List ℕ)
-
-abbrev pub is_essential : Kind → Bool
-is_essential Essential = true
-is_essential kind = false
 
 -- The statement after those before is an assertion, and this is what it states. Its essential
 -- hypotheses are those of its frame, in database order (the Metamath book, section 4.2.7).

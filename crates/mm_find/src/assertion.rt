@@ -5,10 +5,10 @@ ghost use Rattle.std.specs.List.{AllByRecursion};
 ghost use Rattle.mm_code.specs.Layout.{texts};
 ghost use Rattle.mm_frame.specs.FrameIndex.{HaveTypings};
 ghost use Rattle.mm_frame.specs.Numbers.{labelled_sentences, symbols_of};
-ghost use Rattle.mm_frame.specs.Sentence.{Sentence};
+ghost use Rattle.mm_frame.specs.Sentence.{Sentence, is_essential};
 ghost use Rattle.mm_step.specs.Stores.{numbers_in};
 ghost use Rattle.mm_rules.specs.Answer.{labels_at};
-ghost use Rattle.mm_find.specs.Found.{States, is_essential};
+ghost use Rattle.mm_find.specs.Found.{States};
 ghost use Rattle.mm_find.specs.Plain.{expressions_in, plain_assertion};
 ghost use Rattle.mm_find.specs.Mirror.Walk.{IsLast};
 

@@ -4,15 +4,15 @@ ghost use Rattle.std.specs.Prelude.{◌≡◌, ◌<◌, ◌≤◌, ℕ, List, []
 ghost use Rattle.mm_base.specs.MostBytes.{most_bytes};
 ghost use Rattle.mm_code.specs.Letters.{HasSpelling};
 ghost use Rattle.mm_frame.specs.Form.{IsSound};
-ghost use Rattle.mm_step.specs.Tree.{Trees, tree, none, spelling, MayStandOver, roots};
-ghost use Rattle.mm_forms.specs.OneTree.{MakeOneTree};
+ghost use Rattle.mm_step.specs.Tree.{Trees, none, spelling, MayStandOver, roots};
+ghost use Rattle.mm_forms.specs.OneTree.{MakeOneTree, MakeRow, OfRow};
 ghost use Rattle.mm_step.specs.Steps.{AreSteps};
 ghost use Rattle.mm_forms.specs.Spelled.{OfSpelling};
 ghost use Rattle.mm_forms.specs.Packing.{OfTree};
 ghost use Rattle.mm_proof.specs.Verified.{OfMoves};
 ghost use Rattle.mm_step.specs.Mirror.CodeSteps.{MayBeUsed};
 ghost use Rattle.mm_proof.specs.Mirror.CodeSteps.{moves_of};
-ghost use Rattle.mm_forms.specs.Mirror.Builders.{KeepsItem, MakeTreeAt, IsBuilt};
+ghost use Rattle.mm_forms.specs.Mirror.Builders.{KeepsItem, MakeRowAt, AreBuilt, IsBuilt};
 
 use mm_code::Code;
 use mm_frame::{Book, LabelId};
@@ -140,26 +140,26 @@ impl<'s, 'e, 'b, 'a, B: Builder> Machine for Forest<'s, 'e, 'b, 'a, B, B::Item> 
     }
 }
 
-// All moves, one after the other: the item of the tree that they make.
+// All moves, one after the other: the items of the row of trees that they make.
 fn build_moves<B: Builder>(
     alloc: Global,
     builder: &mut B,
     book: &Book,
     entries: &[LabelId],
     codes: &[Code],
-) -> Result<B::Item, B::Fault>
+) -> Result<Vec<B::Item>, B::Fault>
     requires spelled { All HasSpelling codes.now }
     requires sound { IsSound book.now.statements }
-    requires made { MakeTreeAt book.now.statements (moves_of entries.now codes.now) }
+    requires made { MakeRowAt book.now.statements (moves_of entries.now codes.now) }
     requires nothing { B.holds builder.old builder.old book.now.statements [] none [] [] 0 }
     requires marks { (now : B) → KeepsItem (B.holds builder.old now book.now.statements) }
-    ensures built { IfOk result (λ item.
-        (m : MakeTreeAt book.now.statements (moves_of entries.now codes.now))
-        → IsBuilt (B.holds builder.old builder.new book.now.statements) m.names
-        (tree m.label m.below none) item) }
+    ensures built { IfOk result (λ items.
+        (m : MakeRowAt book.now.statements (moves_of entries.now codes.now))
+        → AreBuilt (B.holds builder.old builder.new book.now.statements) m.names m.row
+        items.items) }
     ensures long { IfErr result (λ fault. B.is_long fault
-        → (m : MakeTreeAt book.now.statements (moves_of entries.now codes.now))
-        → B.most builder.old < length (spelling (tree m.label m.below none))) }
+        → (m : MakeRowAt book.now.statements (moves_of entries.now codes.now))
+        → B.most builder.old < length (spelling m.row)) }
 {
     let mut stack = Vec::new(alloc);
     let mut shelf = Vec::new(alloc);
@@ -171,7 +171,38 @@ fn build_moves<B: Builder>(
         shelf: &mut shelf,
     };
     run(&mut forest, entries.len(), codes)?;
-    Ok(forest.stack[0])
+    Ok(stack)
+}
+
+/// The items of the row of trees that so many first moves of the `$p` with this number make. The
+/// builder is handed in empty, as for `build`.
+#[tactic(auto, using(crate::proofs::TreeBuilding::Building::tree_steps))]
+pub(crate) fn build_row<B: Builder>(
+    alloc: Global,
+    builder: &mut B,
+    book: &Book,
+    id: LabelId,
+    steps: &Steps,
+    count: usize,
+) -> Result<Vec<B::Item>, B::Fault>
+    requires steps { AreSteps book.now.statements id.0 steps.now.moves }
+    requires within { count ≤ length steps.now.moves }
+    requires makes { OfMoves book.now.statements id.0 steps.now.moves
+        (λ index s moves. (row : Trees)
+        × MakeRow (take index book.now.statements) (take count moves) row) }
+    requires nothing { B.holds builder.old builder.old book.now.statements [] none [] [] 0 }
+    requires marks { (now : B) → KeepsItem (B.holds builder.old now book.now.statements) }
+    ensures built { IfOk result (λ items. OfMoves book.now.statements id.0 steps.now.moves
+        (λ index s moves. OfRow (take index book.now.statements) (take count moves) (λ row.
+        AreBuilt (B.holds builder.old builder.new book.now.statements) (take count moves) row
+        items.items))) }
+    ensures long { IfErr result (λ fault. B.is_long fault
+        → OfMoves book.now.statements id.0 steps.now.moves
+        (λ index s moves. OfRow (take index book.now.statements) (take count moves)
+        (λ row. B.most builder.old < length (spelling row)))) }
+{
+    let _own = book.frame(id);
+    build_moves(alloc, builder, book, &steps.entries, &steps.codes[..count])
 }
 
 /// The item of the tree that the steps of the `$p` with this number make. The builder is handed in
@@ -200,5 +231,6 @@ pub(crate) fn build<B: Builder>(
         (λ spelled. B.most builder.old < length spelled))) }
 {
     let _own = book.frame(id);
-    build_moves(alloc, builder, book, &steps.entries, &steps.codes)
+    let items = build_moves(alloc, builder, book, &steps.entries, &steps.codes)?;
+    Ok(items[0])
 }

@@ -1,6 +1,7 @@
 //! The forms of a proof: normal, fully shared, packed and small; and whether two proofs are one.
-//! It answers `expand`, `compress`, `compress_small` and `same`. It stands on `mm_proof`. Begin
-//! with `packing`: a proof's steps are run on a `Builder`, which gives equal subtrees one number.
+//! It answers `expand`, `expand_beginning`, `compress`, `compress_small` and `same`. It stands on
+//! `mm_proof`. Begin with `packing`: a proof's steps are run on a `Builder`, which gives equal
+//! subtrees one number.
 //! What a packed proof is stands in `specs/Packing.antt`, what a small one is in
 //! `specs/SmallProofs.antt`; the texts of all forms are made in `mm_render`.
 #![tactic(auto)]
@@ -16,7 +17,7 @@ mod subtree_set;
 mod subtrees;
 mod words;
 
-pub use expansion::expand;
+pub use expansion::{expand, expand_beginning};
 pub use packing::{Packed, compress};
 pub use sameness::same;
 pub use small::{LabelUse, SmallProof, compress_small};

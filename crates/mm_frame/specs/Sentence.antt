@@ -1,6 +1,6 @@
 -- What statements say, without where they stand.
 use Rattle.std.specs.Prelude.{◌≡◌, ℕ, ◌<◌, List, [], ◌∷◌, map, slice_get, Contains, Option, Some}
-use Rattle.std.specs.Prelude.{option_map, ◌⊎◌}
+use Rattle.std.specs.Prelude.{option_map, ◌⊎◌, Bool, true, false}
 use Rattle.mm_base.specs.declared.statement.Kind.{Kind}
 use Rattle.mm_base.specs.declared.statement.Kind.TheVariants.{Distinct, Floating, Essential, Axiom}
 use Rattle.mm_base.specs.declared.statement.Kind.TheVariants.{Provable}
@@ -31,6 +31,11 @@ SomeSentence statements P =
 -- a `$f` or a `$e`
 abbrev pub IsHypothesis : Kind → Type 0
 IsHypothesis kind = (kind ≡ Floating) ⊎ (kind ≡ Essential)
+
+-- it is a `$e`
+abbrev pub is_essential : Kind → Bool
+is_essential Essential = true
+is_essential kind = false
 
 -- a `$a` or a `$p`
 abbrev pub IsAssertion : Kind → Type 0

@@ -1,5 +1,5 @@
 -- What statements are handed to, one after the other, as they are read.
-use Rattle.std.specs.Prelude.{ℕ, ◌<◌, length, List, [], ◌∷◌, ◌++◌}
+use Rattle.std.specs.Prelude.{◌<◌, length, List, [], ◌∷◌, ◌++◌}
 use Rattle.mm_base.specs.Statement.{PlainStatement, HasForm}
 
 -- what one is after these statements, since a first state

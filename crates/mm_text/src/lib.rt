@@ -40,6 +40,6 @@ pub use laws::{
 };
 pub use load::{LoadFault, StrippedBytes, read_all, read_stripped};
 pub use passing::{Passing, pass_all, pass_first, pass_next};
-pub use remarks::{headings_between, mathbox_at, says_before};
+pub use remarks::{comment_before, headings_between, mathbox_at, says_before};
 pub use shown::{ShownTokens, shown_tokens};
 pub use statements::Statements;

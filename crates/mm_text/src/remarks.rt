@@ -101,9 +101,12 @@ fn last_mark(bytes: &[u8], stop: usize) -> Option<usize>
     None
 }
 
-/// Where the comment right before a position begins and ends: the positions of its `$(` and of its
-/// `$)`; none where no comment stands there.
-fn comment_before(bytes: &[u8], at: usize) -> Option<(usize, usize)>
+/// The comment right before a position of a file, behind whose `$)` there is only white space up to
+/// the position: the positions of its `$(` and of its `$)`, in bytes; none where no comment stands
+/// there.
+///
+/// The position is that of a statement's first token, and the file is one that has no fault.
+pub fn comment_before(bytes: &[u8], at: usize) -> Option<(usize, usize)>
     requires { at ≤ length bytes.now }
     ensures { MatchOption result
         ((start stop : ℕ) → ¬ (IsCommentBefore bytes.now at start stop))

@@ -1,6 +1,6 @@
 //! The forms of proofs: what they spell, and whether two of them spell one tree.
 
-ghost use Rattle.std.specs.Prelude.{◌≡◌, ◌≤◌, ℕ, length, take, false, IfOk, OnOk};
+ghost use Rattle.std.specs.Prelude.{◌≡◌, ◌<◌, ◌≤◌, ℕ, length, take, false, IfOk, OnOk};
 ghost use Rattle.std.specs.List.{sum_by};
 ghost use Rattle.mm_base.specs.MostBytes.{most_bytes};
 ghost use Rattle.mm_frame.specs.Sentence.{Sentence};
@@ -14,7 +14,7 @@ use crate::doublings::TWENTY_FOUR;
 use crate::proof::{JOINED, SHARED, Theorem, first_theorem, joined};
 use mm_base::{File, Token};
 use mm_code::Code;
-use mm_forms::{Packed, compress, expand, same};
+use mm_forms::{Packed, compress, expand, expand_beginning, same};
 use mm_frame::{Book, LabelId};
 use mm_proof::{Parsed, Steps, verify};
 use mm_step::{ExpandFault, Flat, Profile};
@@ -74,6 +74,24 @@ fn expanded(
     Ok(expand(alloc, &theorem.book, theorem.id, &steps, max))
 }
 
+/// The labels that so many first moves of the theorem's proof spell, up to so many.
+fn begun(
+    alloc: Global,
+    theorem: &Theorem,
+    count: usize,
+    max: usize,
+) -> Result<Result<Vec<LabelId>, ExpandFault>, Fail>
+    requires proof { (index : ℕ) × (s : Sentence)
+        × IsProofNumber theorem.now.book.statements theorem.now.id.0 index s }
+    requires room { sum_by length (token_texts theorem.now.tokens.items) ≤ most_bytes }
+{
+    let steps = accepted_steps(alloc, &theorem.book, theorem.id, &theorem.tokens)?;
+    if steps.codes.len() < count {
+        return Err(Fail::from("fewer moves"));
+    }
+    Ok(expand_beginning(alloc, &theorem.book, theorem.id, &steps, count, max))
+}
+
 /// Whether these are the labels.
 fn are_labels(book: &Book, ids: &[LabelId], labels: &[&[u8]]) -> bool {
     for (id, label) in ids.iter().zip(labels.iter()) {
@@ -82,6 +100,26 @@ fn are_labels(book: &Book, ids: &[LabelId], labels: &[&[u8]]) -> bool {
         }
     }
     ids.len() == labels.len()
+}
+
+/// Whether so many first moves of the first `$p` of a database spell these labels, and are refused
+/// where one fewer is allowed.
+fn begins(alloc: Global, bytes: &[u8], count: usize, labels: &[&[u8]]) -> Result<bool, Fail>
+    requires { 0 < length labels.now }
+{
+    let files = [File {
+        name: b"a.mm",
+        bytes,
+    }];
+    let theorem = first_theorem(alloc, &files)?;
+    let most = begun(alloc, &theorem, count, labels.len())?;
+    let fewer = begun(alloc, &theorem, count, labels.len() - 1)?;
+    let answer = match most {
+        Ok(ids) => are_labels(&theorem.book, &ids, labels),
+        Err(_) => false,
+    };
+    drop(theorem);
+    Ok(answer && fewer.err() == Some(ExpandFault::L2))
 }
 
 /// Whether the theorem's proof spells these labels, up to so many.
@@ -131,6 +169,9 @@ fn spellings(rt: HostRuntime) -> Result<(), Fail> {
     let labels: [&[u8]; 7] = [b"nil", b"nil", b"cat", b"nil", b"nil", b"cat", b"cat"];
     assert!(rt; spells(alloc, SHARED, 7, &labels)?);
     assert!(rt; spells_more(alloc, SHARED, 6)?);
+    assert!(rt; begins(alloc, SHARED, 2, &labels[..2])?);
+    assert!(rt; begins(alloc, SHARED, 5, &labels[..6])?);
+    assert!(rt; begins(alloc, SHARED, 6, &labels)?);
     let doubled = joined(alloc, &[STRINGS, b"th $p e $= ", TWENTY_FOUR, b" $."])?;
     assert!(rt; spells_more(alloc, &doubled, MOST)?);
     assert!(rt; spells_more(alloc, JOINED, MOST)?);

@@ -7,12 +7,13 @@ use Rattle.std.proofs.lemmas.Option.{get_or_from_slice_get}
 use Rattle.std.proofs.lemmas.Slice.Zip.{AllZip-long}
 use Rattle.std.proofs.lemmas.List.{length-append, length-drop, take-append-drop, drop_all}
 use Rattle.std.proofs.lemmas.List.{drop_more, take_all}
-use Rattle.mm_base.proofs.Lists.{zip_push, zip_left, zip_right, all_at}
+use Rattle.mm_base.proofs.Lists.{zip_push, zip_left, zip_right, zip_take, all_at, all_there}
+use Rattle.mm_base.proofs.Lists.{get_from_take}
 use Rattle.mm_frame.specs.Sentence.{Sentence}
 use Rattle.mm_frame.specs.Rules.{AllMeant}
 use Rattle.mm_step.specs.Tree.{Trees, none, tree, spelling, beside, roots, MayStandOver}
 use Rattle.mm_step.specs.Moves.{Move, name, again, mark, MakesOne, Makes}
-use Rattle.mm_forms.specs.OneTree.{MakeTree}
+use Rattle.mm_forms.specs.OneTree.{MakeRow, MakeTree}
 use Rattle.mm_step.specs.Steps.{IsNumberedMove, AreNumberedMoves, AreSteps, IsProofNumber}
 use Rattle.mm_forms.specs.Spelled.{IsNumberOfLabel}
 use Rattle.mm_step.specs.Mirror.CodeSteps.{MayBeUsed}
@@ -20,7 +21,8 @@ use Rattle.mm_step.specs.Mirror.CodeRun.{MayBeMade}
 use Rattle.mm_forms.specs.declared.builder.Forest.{Forest}
 use Rattle.mm_proof.specs.Mirror.Machines.{IsNext}
 use Rattle.mm_forms.specs.Mirror.Builders.{Holding, MakesItem, IsKept, RepeatsItem, KeepsItem}
-use Rattle.mm_forms.specs.Mirror.Builders.{IsFull, IsTooLong, MakeTreeAt, IsBuilt, AreItemsAt}
+use Rattle.mm_forms.specs.Mirror.Builders.{IsFull, IsTooLong, MakeRowAt, AreBuilt, IsBuilt}
+use Rattle.mm_forms.specs.Mirror.Builders.{AreItemsAt}
 use Rattle.mm_proof.specs.Mirror.Builders.{AreFirst}
 use Rattle.mm_forms.specs.Mirror.Builders.{HasBuilt, MayGrow}
 use Rattle.mm_step.proofs.ProofSteps.Derivations.{roots-beside, spelling-beside}
@@ -60,33 +62,64 @@ first_more (f ∷ prefix) (m ∷ moves) x first =
 pub first_all : (moves : List (Move ℕ)) → AreFirst moves moves
 first_all moves = take_all (length moves) moves (omega arith)
 
--- the steps make the tree, by the moves that are seen of them
-abbrev pub make_tree_at : (st : List Sentence) (id : ℕ) (xs ys : List (Move ℕ)) (index : ℕ) (s : Sentence) (names : List (Move (List ℕ))) (label : List ℕ) (below : Trees) → AllMeant st → AreSteps st id xs → xs ≡ ys
-    → IsProofNumber st id index s → AreNumberedMoves st xs names → MakeTree (take index st) names label below → MakeTreeAt st ys
-make_tree_at st id xs ys index s names label below all steps same proof numbered makes = record {
+-- the steps make the row of trees, by the moves that are seen of them
+abbrev pub make_row_at : (st : List Sentence) (id : ℕ) (xs ys : List (Move ℕ)) (index : ℕ)
+    (s : Sentence) (names : List (Move (List ℕ))) (row : Trees) → AllMeant st → AreSteps st id xs
+    → xs ≡ ys → IsProofNumber st id index s → AreNumberedMoves st xs names
+    → MakeRow (take index st) names row → MakeRowAt st ys
+make_row_at st id xs ys index s names row all steps same proof numbered makes = record {
   index = index;
   names = names;
-  usable = subst (AllByRecursion (MayBeMade st index)) same (steps_made st id xs index s all steps proof.numbered);
+  usable = subst (AllByRecursion (MayBeMade st index)) same
+      (steps_made st id xs index s all steps proof.numbered);
   numbered = subst (λ (l : List (Move ℕ)). AreNumberedMoves st l names) same numbered;
-  label = label;
-  below = below;
+  row = row;
   makes = makes;
 }
 
-pub ruleset tree_steps = (seen_moves, make_tree_at)
+-- a tree alone is a row
+abbrev pub tree_row : (before : List Sentence) (names : List (Move (List ℕ))) (label : List ℕ)
+    (below : Trees) → MakeTree before names label below
+    → MakeRow before names (tree label below none)
+tree_row before names label below makes = record { kept = makes.kept; made = makes.made }
+
+-- of so many first elements it is said where it is said of all
+pub all_front : {A : Type 0} (P : A → Type 0) (xs : List A) (n : ℕ) → AllByRecursion P xs
+    → AllByRecursion P (take n xs)
+all_front P xs n all =
+    all_there P (take n xs) (λ k x there. all_at P xs k x all (get_from_take xs n k x there).1)
+
+-- so many first steps make the row
+abbrev pub make_front_at : (st : List Sentence) (id : ℕ) (xs ys : List (Move ℕ)) (count index : ℕ)
+    (s : Sentence) (names : List (Move (List ℕ))) (row : Trees) → AllMeant st → AreSteps st id xs
+    → take count xs ≡ ys → IsProofNumber st id index s → AreNumberedMoves st xs names
+    → MakeRow (take index st) (take count names) row → MakeRowAt st ys
+make_front_at st id xs ys count index s names row all steps same proof numbered makes = record {
+  index = index;
+  names = take count names;
+  usable = subst (AllByRecursion (MayBeMade st index)) same
+      (all_front (MayBeMade st index) xs count
+      (steps_made st id xs index s all steps proof.numbered));
+  numbered = subst (λ (l : List (Move ℕ)). AreNumberedMoves st l (take count names)) same
+      (zip_take (IsNumberedMove st) xs names count numbered);
+  row = row;
+  makes = makes;
+}
+
+pub ruleset tree_steps = (seen_moves, make_row_at)
 
 -- ---- the next move
 
-record Next {X : Type 0} (held : Holding X) (st : List Sentence) (moves : List (Move ℕ)) (m : MakeTreeAt st moves) (i : ℕ) (stack shelf : List X) (x : Move ℕ) (h : AreItemsAt held st moves m i stack shelf) : Type 0 where
+record Next {X : Type 0} (held : Holding X) (st : List Sentence) (moves : List (Move ℕ)) (m : MakeRowAt st moves) (i : ℕ) (stack shelf : List X) (x : Move ℕ) (h : AreItemsAt held st moves m i stack shelf) : Type 0 where
   move : Move (List ℕ)
   numbered : IsNumberedMove st x move
   usable : MayBeMade st m.index x
   row' : Trees
   kept' : List Trees
   one : MakesOne (take m.index st) move h.row h.kept row' kept'
-  others : Makes (take m.index st) (drop (i + 1) m.names) row' kept' (tree m.label m.below none) m.makes.kept
+  others : Makes (take m.index st) (drop (i + 1) m.names) row' kept' m.row m.makes.kept
 
-next : {X : Type 0} (held : Holding X) (st : List Sentence) (moves : List (Move ℕ)) (m : MakeTreeAt st moves) (i : ℕ) (stack shelf : List X) (x : Move ℕ) (h : AreItemsAt held st moves m i stack shelf)
+next : {X : Type 0} (held : Holding X) (st : List Sentence) (moves : List (Move ℕ)) (m : MakeRowAt st moves) (i : ℕ) (stack shelf : List X) (x : Move ℕ) (h : AreItemsAt held st moves m i stack shelf)
     → slice_get moves i ≡ Some x → Next held st moves m i stack shelf x h
 next {X} held st moves m i stack shelf x h here =
     let at = zip_left (IsNumberedMove st) moves m.names i x m.numbered here in
@@ -95,7 +128,7 @@ next {X} held st moves m i stack shelf x h here =
     record { move = at.0; numbered = at.2; usable = all_at (MayBeMade st m.index) moves i x m.usable here; row' = left.0; kept' = left.1; one = left.2; others = left.3 }
 
 -- a step by a label, by the trees that it takes
-pub record NextMake {X : Type 0} (held : Holding X) (st : List Sentence) (moves : List (Move ℕ)) (m : MakeTreeAt st moves) (i : ℕ) (stack shelf : List X) (id : ℕ) (h : AreItemsAt held st moves m i stack shelf) : Type 0 where
+pub record NextMake {X : Type 0} (held : Holding X) (st : List Sentence) (moves : List (Move ℕ)) (m : MakeRowAt st moves) (i : ℕ) (stack shelf : List X) (id : ℕ) (h : AreItemsAt held st moves m i stack shelf) : Type 0 where
   pub label : List ℕ
   pub rest : Trees
   pub below : Trees
@@ -103,9 +136,9 @@ pub record NextMake {X : Type 0} (held : Holding X) (st : List Sentence) (moves 
   pub used : MayBeUsed st m.index label id
   pub stands : MayStandOver (take m.index st) label below
   pub was : h.row ≡ beside rest below
-  pub others : Makes (take m.index st) (drop (i + 1) m.names) (beside rest (tree label below none)) h.kept (tree m.label m.below none) m.makes.kept
+  pub others : Makes (take m.index st) (drop (i + 1) m.names) (beside rest (tree label below none)) h.kept m.row m.makes.kept
 
-pub next_make : {X : Type 0} (held : Holding X) (st : List Sentence) (moves : List (Move ℕ)) (m : MakeTreeAt st moves) (i : ℕ) (stack shelf : List X) (id : ℕ) (h : AreItemsAt held st moves m i stack shelf)
+pub next_make : {X : Type 0} (held : Holding X) (st : List Sentence) (moves : List (Move ℕ)) (m : MakeRowAt st moves) (i : ℕ) (stack shelf : List X) (id : ℕ) (h : AreItemsAt held st moves m i stack shelf)
     → slice_get moves i ≡ Some (name id) → NextMake held st moves m i stack shelf id h
 next_make {X} held st moves m i stack shelf id h here =
     let n = next held st moves m i stack shelf (name id) h here in
@@ -124,11 +157,11 @@ next_make {X} held st moves m i stack shelf id h here =
     }
 
 -- so many trees are there
-pub make_within : {X : Type 0} (held : Holding X) (st : List Sentence) (moves : List (Move ℕ)) (m : MakeTreeAt st moves) (i : ℕ) (stack shelf : List X) (id width : ℕ) (h : AreItemsAt held st moves m i stack shelf)
+pub make_within : {X : Type 0} (held : Holding X) (st : List Sentence) (moves : List (Move ℕ)) (m : MakeRowAt st moves) (i : ℕ) (stack shelf : List X) (id width : ℕ) (h : AreItemsAt held st moves m i stack shelf)
     → (n : NextMake held st moves m i stack shelf id h) → roots n.below ≡ width → width ≤ length stack
 make_within held st moves m i stack shelf id width h n wide = omega (arith, h.deep, ap roots n.was, roots-beside n.rest n.below, wide)
 
-pub at_make : {X : Type 0} (old new : Holding X) (st : List Sentence) (moves : List (Move ℕ)) (m : MakeTreeAt st moves) (i : ℕ) (stack shelf : List X) (item : X) (id width base : ℕ) (h : AreItemsAt old st moves m i stack shelf)
+pub at_make : {X : Type 0} (old new : Holding X) (st : List Sentence) (moves : List (Move ℕ)) (m : MakeRowAt st moves) (i : ℕ) (stack shelf : List X) (item : X) (id width base : ℕ) (h : AreItemsAt old st moves m i stack shelf)
     → (n : NextMake old st moves m i stack shelf id h) → roots n.below ≡ width → base ≡ length stack - width
     → MakesItem old new (IsNumberOfLabel st id) (take (length stack - base) (drop base stack)) item
     → AreItemsAt new st moves m (i + 1) (take base stack ++ item ∷ []) shelf
@@ -165,19 +198,19 @@ at_make {X} old new st moves m i stack shelf item id width base h n wide at make
       made = n.others;
     }
 
-pub make_long : {X : Type 0} (held : Holding X) (st : List Sentence) (moves : List (Move ℕ)) (m : MakeTreeAt st moves) (i : ℕ) (stack shelf : List X) (id most : ℕ) (h : AreItemsAt held st moves m i stack shelf)
-    → NextMake held st moves m i stack shelf id h → IsFull held most → most < length (spelling (tree m.label m.below none))
+pub make_long : {X : Type 0} (held : Holding X) (st : List Sentence) (moves : List (Move ℕ)) (m : MakeRowAt st moves) (i : ℕ) (stack shelf : List X) (id most : ℕ) (h : AreItemsAt held st moves m i stack shelf)
+    → NextMake held st moves m i stack shelf id h → IsFull held most → most < length (spelling m.row)
 make_long held st moves m i stack shelf id most h n full =
     omega (arith, full stack shelf h.row h.kept h.steps h.holds, ap (λ (x : Trees). length (spelling x)) n.was, spelled_over n.rest n.below n.label, word_grows _ _ _ _ _ _ n.others)
 
 -- a step by a tag, by the kept tree that has the item
-pub record NextRepeat {X : Type 0} (held : Holding X) (st : List Sentence) (moves : List (Move ℕ)) (m : MakeTreeAt st moves) (i : ℕ) (stack shelf : List X) (item : X) (h : AreItemsAt held st moves m i stack shelf) : Type 0 where
+pub record NextRepeat {X : Type 0} (held : Holding X) (st : List Sentence) (moves : List (Move ℕ)) (m : MakeRowAt st moves) (i : ℕ) (stack shelf : List X) (item : X) (h : AreItemsAt held st moves m i stack shelf) : Type 0 where
   pub label : List ℕ
   pub below : Trees
   pub has : IsKept shelf h.kept item label below
-  pub others : Makes (take m.index st) (drop (i + 1) m.names) (beside h.row (tree label below none)) h.kept (tree m.label m.below none) m.makes.kept
+  pub others : Makes (take m.index st) (drop (i + 1) m.names) (beside h.row (tree label below none)) h.kept m.row m.makes.kept
 
-pub repeat_within : {X : Type 0} (held : Holding X) (st : List Sentence) (moves : List (Move ℕ)) (m : MakeTreeAt st moves) (i : ℕ) (stack shelf : List X) (tag : ℕ) (h : AreItemsAt held st moves m i stack shelf)
+pub repeat_within : {X : Type 0} (held : Holding X) (st : List Sentence) (moves : List (Move ℕ)) (m : MakeRowAt st moves) (i : ℕ) (stack shelf : List X) (tag : ℕ) (h : AreItemsAt held st moves m i stack shelf)
     → slice_get moves i ≡ Some (again tag) → tag < length shelf
 repeat_within {X} held st moves m i stack shelf tag h here =
     let n = next held st moves m i stack shelf (again tag) h here in
@@ -188,7 +221,7 @@ one_tree : (t : Trees) → roots t ≡ 1 → (label : List ℕ) × (below : Tree
 one_tree (tree l x none) one = (l, x, refl)
 one_tree t one = absurd (omega arith)
 
-pub next_repeat : {X : Type 0} (held : Holding X) (st : List Sentence) (moves : List (Move ℕ)) (m : MakeTreeAt st moves) (i : ℕ) (stack shelf : List X) (item : X) (tag : ℕ) (h : AreItemsAt held st moves m i stack shelf)
+pub next_repeat : {X : Type 0} (held : Holding X) (st : List Sentence) (moves : List (Move ℕ)) (m : MakeRowAt st moves) (i : ℕ) (stack shelf : List X) (item : X) (tag : ℕ) (h : AreItemsAt held st moves m i stack shelf)
     → slice_get moves i ≡ Some (again tag) → item ≡ get_or shelf tag item → NextRepeat held st moves m i stack shelf item h
 next_repeat {X} held st moves m i stack shelf item tag h here read =
     let there = slice_get_read shelf (length shelf) tag item refl
@@ -204,7 +237,7 @@ next_repeat {X} held st moves m i stack shelf item tag h here read =
       others = rw (one.3, one.2, single.2) at n.others;
     }
 
-pub at_repeat : {X : Type 0} (old new : Holding X) (st : List Sentence) (moves : List (Move ℕ)) (m : MakeTreeAt st moves) (i : ℕ) (stack shelf : List X) (item more : X) (h : AreItemsAt old st moves m i stack shelf)
+pub at_repeat : {X : Type 0} (old new : Holding X) (st : List Sentence) (moves : List (Move ℕ)) (m : MakeRowAt st moves) (i : ℕ) (stack shelf : List X) (item more : X) (h : AreItemsAt old st moves m i stack shelf)
     → NextRepeat old st moves m i stack shelf item h → RepeatsItem old new item more → AreItemsAt new st moves m (i + 1) (stack ++ more ∷ []) shelf
 at_repeat {X} old new st moves m i stack shelf item more h n repeats = record {
   row = beside h.row (tree n.label n.below none);
@@ -217,22 +250,22 @@ at_repeat {X} old new st moves m i stack shelf item more h n repeats = record {
   made = n.others;
 }
 
-pub repeat_long : {X : Type 0} (held : Holding X) (st : List Sentence) (moves : List (Move ℕ)) (m : MakeTreeAt st moves) (i : ℕ) (stack shelf : List X) (item : X) (most : ℕ) (h : AreItemsAt held st moves m i stack shelf)
-    → NextRepeat held st moves m i stack shelf item h → IsTooLong held item most → most < length (spelling (tree m.label m.below none))
+pub repeat_long : {X : Type 0} (held : Holding X) (st : List Sentence) (moves : List (Move ℕ)) (m : MakeRowAt st moves) (i : ℕ) (stack shelf : List X) (item : X) (most : ℕ) (h : AreItemsAt held st moves m i stack shelf)
+    → NextRepeat held st moves m i stack shelf item h → IsTooLong held item most → most < length (spelling m.row)
 repeat_long held st moves m i stack shelf item most h n long =
     omega (arith, long stack shelf h.row h.kept h.steps n.label n.below n.has h.holds, spelled_again h.row (tree n.label n.below none), word_grows _ _ _ _ _ _ n.others)
 
 -- a mark, by the last tree
-pub record NextKeep {X : Type 0} (held : Holding X) (st : List Sentence) (moves : List (Move ℕ)) (m : MakeTreeAt st moves) (i : ℕ) (stack shelf : List X) (h : AreItemsAt held st moves m i stack shelf) : Type 0 where
+pub record NextKeep {X : Type 0} (held : Holding X) (st : List Sentence) (moves : List (Move ℕ)) (m : MakeRowAt st moves) (i : ℕ) (stack shelf : List X) (h : AreItemsAt held st moves m i stack shelf) : Type 0 where
   pub rest : Trees
   pub label : List ℕ
   pub below : Trees
   pub some : 0 < length stack
   pub was : h.row ≡ beside rest (tree label below none)
-  pub others : Makes (take m.index st) (drop (i + 1) m.names) (beside rest (tree label below none)) (h.kept ++ tree label below none ∷ []) (tree m.label m.below none) m.makes.kept
+  pub others : Makes (take m.index st) (drop (i + 1) m.names) (beside rest (tree label below none)) (h.kept ++ tree label below none ∷ []) m.row m.makes.kept
 
 module _ {X : Type 0} (held : Holding X) (st : List Sentence) (moves : List (Move ℕ))
-    (m : MakeTreeAt st moves) (i : ℕ) (stack shelf : List X) where
+    (m : MakeRowAt st moves) (i : ℕ) (stack shelf : List X) where
   pub next_keep : (h : AreItemsAt held st moves m i stack shelf) → slice_get moves i ≡ Some mark
       → NextKeep held st moves m i stack shelf h
   next_keep h here =
@@ -244,8 +277,8 @@ module _ {X : Type 0} (held : Holding X) (st : List Sentence) (moves : List (Mov
         below = one.2;
         some = omega (arith, h.deep, ap roots one.3, roots-beside one.0 (tree one.1 one.2 none));
         was = one.3;
-        others = subst (λ k. Makes (take m.index st) (drop (i + 1) m.names) (beside one.0 (tree one.1 one.2 none)) k (tree m.label m.below none) m.makes.kept) one.5
-            (subst (λ r. Makes (take m.index st) (drop (i + 1) m.names) r n.kept' (tree m.label m.below none) m.makes.kept) (one.4 ∙ one.3) n.others);
+        others = subst (λ k. Makes (take m.index st) (drop (i + 1) m.names) (beside one.0 (tree one.1 one.2 none)) k m.row m.makes.kept) one.5
+            (subst (λ r. Makes (take m.index st) (drop (i + 1) m.names) r n.kept' m.row m.makes.kept) (one.4 ∙ one.3) n.others);
       }
 
   pub at_keep : (item : X) (h : AreItemsAt held st moves m i stack shelf)
@@ -269,25 +302,40 @@ module _ {X : Type 0} (held : Holding X) (st : List Sentence) (moves : List (Mov
 
   -- ---- after all moves
 
-  pub only_item : i ≡ length moves → AreItemsAt held st moves m i stack shelf
-      → (length stack ≡ 1) × ((item : X) → item ≡ get_or stack 0 item → IsBuilt held m.names (tree m.label m.below none) item)
-  only_item all h =
+  pub row_items : i ≡ length moves → AreItemsAt held st moves m i stack shelf
+      → AreBuilt held m.names m.row stack
+  row_items all h =
       let long : length m.names ≡ length moves =
       AllZip-long (IsNumberedMove st) moves m.names m.numbered in
       let made = rw (drop_all i m.names (omega arith)) at h.made in
-      let t : Trees = tree m.label m.below none in
-      let one : length stack ≡ 1 = h.deep ∙ ap roots (sym made.0) in (
-        one,
-        λ item read. record {
-          shelf = shelf;
-          kept = h.kept;
-          steps = h.steps;
-          few = let f = h.few in omega arith;
-          holds = subst (λ s. held s t shelf h.kept h.steps) (only_entry stack item one
-              (slice_get_read stack (length stack) 0 item refl (omega (arith, one)) read))
-              (subst (λ r. held stack r shelf h.kept h.steps) (sym made.0) h.holds);
-        },
-      )
+      record {
+        shelf = shelf;
+        kept = h.kept;
+        steps = h.steps;
+        deep = h.deep ∙ ap roots (sym made.0);
+        few = let f = h.few in omega arith;
+        holds = subst (λ r. held stack r shelf h.kept h.steps) (sym made.0) h.holds;
+      }
+
+-- where they are those of one tree, there is one
+pub only_item : {X : Type 0} (held : Holding X) (stack : List X) (t : Trees) → roots t ≡ 1
+    → (names : List (Move (List ℕ))) → AreBuilt held names t stack → (length stack ≡ 1)
+    × ((item : X) → item ≡ get_or stack 0 item → IsBuilt held names t item)
+only_item held stack t single names b =
+    let one : length stack ≡ 1 = b.deep ∙ single in (
+      one,
+      λ item read. subst (AreBuilt held names t) (only_entry stack item one
+          (slice_get_read stack (length stack) 0 item refl (omega (arith, one)) read)) b,
+    )
+
+-- they are the same by other names for the builder and the items
+pub same_built : {B X : Type 0} (holds : B → B → List Sentence → Holding X) (first was now : B)
+    (st : List Sentence) (names : List (Move (List ℕ))) (row : Trees) (items stack : List X)
+    → was ≡ now → items ≡ stack → AreBuilt (holds first was st) names row items
+    → AreBuilt (holds first now st) names row stack
+same_built holds first was now st names row items stack builder same b =
+    subst (λ n. AreBuilt (holds first n st) names row stack) builder
+    (subst (AreBuilt (holds first was st) names row) same b)
 
 -- ---- a forest
 
@@ -296,12 +344,14 @@ module _ {B X : Type 0} (holds : B → B → List Sentence → Holding X) where
   pub built_more : (first old new : Forest B X) (prefix : List (Move ℕ)) (x : Move ℕ)
       → HasBuilt holds first old prefix → new.builder.ghost_name ≡ old.builder.ghost_name
       → new.book ≡ old.book → new.entries ≡ old.entries
-      → let held = λ (now : Forest B X). holds first.builder.now now.builder.now first.book.now.statements in ((moves : List (Move ℕ)) (m : MakeTreeAt first.book.now.statements moves) → slice_get moves (length prefix) ≡ Some x → AreItemsAt (held old) _ moves m (length prefix) old.stack.now.items old.shelf.now.items → AreItemsAt (held new) _ moves m (length prefix + 1) new.stack.now.items new.shelf.now.items)
+      → new.stack.ghost_name ≡ old.stack.ghost_name
+      → let held = λ (now : Forest B X). holds first.builder.now now.builder.now first.book.now.statements in ((moves : List (Move ℕ)) (m : MakeRowAt first.book.now.statements moves) → slice_get moves (length prefix) ≡ Some x → AreItemsAt (held old) _ moves m (length prefix) old.stack.now.items old.shelf.now.items → AreItemsAt (held new) _ moves m (length prefix + 1) new.stack.now.items new.shelf.now.items)
       → HasBuilt holds first new (prefix ++ x ∷ [])
-  built_more first old new prefix x was builder book entries goes = record {
+  built_more first old new prefix x was builder book entries stack goes = record {
     same_builder = builder ∙ was.same_builder;
     same_book = book ∙ was.same_book;
     same_entries = entries ∙ was.same_entries;
+    same_stack = stack ∙ was.same_stack;
     sound = was.sound;
     keeps = was.keeps;
     at = λ moves m begun.
@@ -312,7 +362,7 @@ module _ {B X : Type 0} (holds : B → B → List Sentence → Holding X) where
   -- some moves go on by the next move
   pub some_next : (now : Forest B X) (x : Move ℕ)
       (next : IsNext (HasBuilt holds) (λ first prefix move. MayGrow first.book.now.statements prefix move) now x)
-      → let statements = next.first.book.now.statements in (moves : List (Move ℕ)) × (m : MakeTreeAt statements moves) × (slice_get moves (length next.prefix) ≡ Some x) × AreItemsAt (holds next.first.builder.now now.builder.now statements) statements moves m (length next.prefix) now.stack.now.items now.shelf.now.items
+      → let statements = next.first.book.now.statements in (moves : List (Move ℕ)) × (m : MakeRowAt statements moves) × (slice_get moves (length next.prefix) ≡ Some x) × AreItemsAt (holds next.first.builder.now now.builder.now statements) statements moves m (length next.prefix) now.stack.now.items now.shelf.now.items
   some_next now x next =
       let moves = next.allowed.0 in
       let more = first_more next.prefix moves x next.allowed.2 in

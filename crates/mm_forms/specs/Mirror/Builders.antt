@@ -7,7 +7,7 @@ use Rattle.mm_frame.specs.Sentence.{Sentence}
 use Rattle.mm_forms.specs.declared.builder.Forest.{Forest}
 use Rattle.mm_step.specs.Tree.{Trees, none, tree, spelling, beside, roots}
 use Rattle.mm_step.specs.Moves.{Move, Makes}
-use Rattle.mm_forms.specs.OneTree.{MakeTree}
+use Rattle.mm_forms.specs.OneTree.{MakeRow}
 use Rattle.mm_step.specs.Steps.{AreNumberedMoves}
 use Rattle.mm_step.specs.Mirror.CodeRun.{MayBeMade}
 use Rattle.mm_proof.specs.Mirror.Builders.{AreFirst}
@@ -74,29 +74,34 @@ IsTooLong {X} held item most =
     (below : Trees) → IsKept shelf kept item label below → held stack row shelf kept steps
     → most < length (spelling row) + length (spelling (tree label below none))
 
--- Moves, by numbers, each of which may be made at the index: they make one tree.
-pub record MakeTreeAt (statements : List Sentence) (moves : List (Move ℕ)) : Type 0 where
+-- Moves, by numbers, each of which may be made at the index: they make this row of trees.
+pub record MakeRowAt (statements : List Sentence) (moves : List (Move ℕ)) : Type 0 where
   pub index : ℕ
   pub names : List (Move (List ℕ))
   pub usable : AllByRecursion (MayBeMade statements index) moves
   pub numbered : AreNumberedMoves statements moves names
-  pub label : List ℕ
-  pub below : Trees
-  pub makes : MakeTree (take index statements) names label below
+  pub row : Trees
+  pub makes : MakeRow (take index statements) names row
 
--- the item is that of the tree that the moves make
-pub record IsBuilt {X : Type 0} (held : Holding X) (moves : List (Move (List ℕ))) (t : Trees)
-    (item : X) : Type 0 where
+-- the items are those of the trees of the row that the moves make
+pub record AreBuilt {X : Type 0} (held : Holding X) (moves : List (Move (List ℕ))) (row : Trees)
+    (items : List X) : Type 0 where
   pub shelf : List X
   pub kept : List Trees
   pub steps : ℕ
+  pub deep : length items ≡ roots row
   pub few : steps ≤ length moves
-  pub holds : held (item ∷ []) t shelf kept steps
+  pub holds : held items row shelf kept steps
+
+-- the item is that of the tree that the moves make
+abbrev pub IsBuilt : {X : Type 0} → Holding X → List (Move (List ℕ)) → (t : Trees) → (item : X)
+    → Type 0
+IsBuilt held moves t item = AreBuilt held moves t (item ∷ [])
 
 -- The items are those of the trees that the moves before an index made; the moves that are left
--- make the tree out of them.
+-- make the row out of them.
 pub record AreItemsAt {X : Type 0} (held : Holding X) (statements : List Sentence)
-    (moves : List (Move ℕ)) (m : MakeTreeAt statements moves) (index : ℕ)
+    (moves : List (Move ℕ)) (m : MakeRowAt statements moves) (index : ℕ)
     (stack shelf : List X) : Type 0 where
   pub row : Trees
   pub kept : List Trees
@@ -106,30 +111,31 @@ pub record AreItemsAt {X : Type 0} (held : Holding X) (statements : List Sentenc
   pub ones : AllZip (λ (x : X) (t : Trees). roots t ≡ 1) shelf kept
   pub few : steps ≤ index
   pub made : Makes (take m.index statements) (drop index m.names) row kept
-      (tree m.label m.below none) m.makes.kept
+      m.row m.makes.kept
 
--- The moves since the first state were built, with the same builder, book and entries: whatever moves they
--- begin that make a tree, the items are those of the trees so far.
+-- The moves since the first state were built, with the same builder, book, entries and stack:
+-- whatever moves they begin that make a row of trees, the items are those of the trees so far.
 pub record HasBuilt {B X : Type 0} (holds : B → B → List Sentence → Holding X)
     (first now : Forest B X) (prefix : List (Move ℕ)) : Type 0 where
   pub same_builder : now.builder.ghost_name ≡ first.builder.ghost_name
   pub same_book : now.book ≡ first.book
   pub same_entries : now.entries ≡ first.entries
+  pub same_stack : now.stack.ghost_name ≡ first.stack.ghost_name
   pub sound : IsSound first.book.now.statements
   pub keeps : (later : B) → KeepsItem (holds first.builder.now later first.book.now.statements)
   pub at : let statements = first.book.now.statements in
-      (moves : List (Move ℕ)) (m : MakeTreeAt statements moves) → AreFirst prefix moves
+      (moves : List (Move ℕ)) (m : MakeRowAt statements moves) → AreFirst prefix moves
       → AreItemsAt (holds first.builder.now now.builder.now statements) statements moves m
       (length prefix) now.stack.now.items now.shelf.now.items
 
--- the move comes after these in moves that make a tree
+-- the move comes after these in moves that make a row of trees
 abbrev pub MayGrow : List Sentence → List (Move ℕ) → Move ℕ → Type 0
 MayGrow statements prefix move =
-    (moves : List (Move ℕ)) × MakeTreeAt statements moves × AreFirst (prefix ++ move ∷ []) moves
+    (moves : List (Move ℕ)) × MakeRowAt statements moves × AreFirst (prefix ++ move ∷ []) moves
 
--- whatever moves begin so and make a tree, it spells more labels than the most
+-- whatever row of trees moves make that begin so, it spells more labels than the most
 abbrev pub AreTooMany : List Sentence → List (Move ℕ) → Move ℕ → (most : ℕ) → Type 0
 AreTooMany statements prefix move most =
-    (moves : List (Move ℕ)) (m : MakeTreeAt statements moves)
+    (moves : List (Move ℕ)) (m : MakeRowAt statements moves)
     → AreFirst (prefix ++ move ∷ []) moves
-    → most < length (spelling (tree m.label m.below none))
+    → most < length (spelling m.row)

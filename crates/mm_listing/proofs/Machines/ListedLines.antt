@@ -3,7 +3,7 @@ use Rattle.std.proofs.Common.{◌≡◌, ℕ, suc, ◌+◌, ◌<◌, List, [], �
 use Rattle.std.proofs.Common.{slice_get, Some, true, ◌⊎◌, inl, inr, refl, sym, ap, subst, ◌∙◌}
 use Rattle.std.proofs.Common.{arith, ⊎_elim, ◌-◌, Bool}
 use Rattle.std.proofs.lemmas.Bool.{false≢true}
-use Rattle.std.proofs.lemmas.Option.{slice_get_within, same_Some}
+use Rattle.std.proofs.lemmas.Option.{slice_get_within}
 use Rattle.std.proofs.lemmas.List.{take-append-le, take_at, length-append, length-map}
 use Rattle.mm_base.proofs.Lists.{split_at, get_kept, pushed_cases, zip_left, zip_front}
 use Rattle.mm_base.proofs.Lists.{all_at, all_weaker, get_pushed}
@@ -20,7 +20,6 @@ use Rattle.mm_proof.proofs.ProofVerdicts.FirstFault.{steps_in-append}
 use Rattle.std.proofs.lemmas.Slice.Zip.{AllZip-long}
 use Rattle.mm_frame.specs.Numbers.{symbols_of}
 use Rattle.mm_listing.specs.declared.lines.Line.{Line}
-use Rattle.mm_step.specs.Stores.{numbers_in}
 use Rattle.mm_step.specs.Steps.{IsNumberedMove, AreNumberedMoves}
 use Rattle.mm_step.specs.Mirror.CodeVerify.{IsSymbol, AreDeclaredSymbols, AreBelow, names_at}
 use Rattle.mm_step.specs.Mirror.CodeVerify.{all_names_at}

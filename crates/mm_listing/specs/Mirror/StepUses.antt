@@ -1,6 +1,6 @@
 -- What the code that tells what steps use knows on its way: it mirrors the code.
 use Rattle.std.specs.Prelude.{◌≡◌, ℕ, ◌+◌, ◌-◌, ◌<◌, ◌≤◌, List, map, take, slice_get, Some, None}
-use Rattle.std.specs.Prelude.{slice_index_or, length, Bool, true, false, not, Contains, ◌⊎◌, ◌↔◌}
+use Rattle.std.specs.Prelude.{slice_index_or, length, Bool, true, false, Contains, ◌⊎◌, ◌↔◌}
 use Rattle.mm_frame.specs.Sentence.{Sentence}
 use Rattle.mm_frame.specs.Rules.{AllMeant}
 use Rattle.mm_frame.specs.declared.hypothesis.Hypothesis.{Hypothesis}

@@ -2,7 +2,8 @@
 use Rattle.std.proofs.lemmas.Option.{slice_get_within}
 use Rattle.std.proofs.Common.{sym, ◌∙◌}
 use Rattle.mm_frame.specs.Numbers.{labelled_sentences}
-use Rattle.mm_find.proofs.Assertions.{all_taken, essential_step, hypothesis_there, other_step}
+use Rattle.mm_frame.proofs.Frames.EssentialHypotheses.{all_stated, hypothesis_there}
+use Rattle.mm_find.proofs.Assertions.{essential_step, other_step}
 use Rattle.mm_find.proofs.assertion.essential.Goals as goal
 
 pub expression_at-requires : goal.expression_at-requires
@@ -29,6 +30,6 @@ loop-hypothesis-preserved c stated are =
 
 pub returns : goal.returns
 returns c stated are =
-    rw (all_taken (labelled_sentences c.args.book.now.statements) c.args.hypotheses.now stated
+    rw (all_stated (labelled_sentences c.args.book.now.statements) c.args.hypotheses.now stated
     c.loop-hypothesis.hypothesis-index are c.loop-hypothesis-test.false) at
     (c.loop-hypothesis.invariant stated are)

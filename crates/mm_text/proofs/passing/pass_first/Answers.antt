@@ -1,5 +1,5 @@
 -- The reading is one, so what a new reader has left is the statements of the files.
-use Rattle.std.proofs.Common.{List, ℕ, map, subst, refl, take}
+use Rattle.std.proofs.Common.{List, map, subst, take}
 use Rattle.std.proofs.lemmas.Result.{on_ok_weaker}
 use Rattle.mm_base.specs.Statement.{PlainStatement}
 use Rattle.mm_text.specs.Files.{plain_file}

@@ -28,7 +28,7 @@ index-item-requires g c =
 
 pub returns-clause-ran : goal.returns-clause-ran
 returns-clause-ran g c first prefix may ran =
-    built_more g.B.Builder.holds first c.args.self.now _ prefix _ ran refl refl refl (λ moves m here h.
+    built_more g.B.Builder.holds first c.args.self.now _ prefix _ ran refl refl refl refl (λ moves m here h.
     let stack = c.args.self.now.stack.now in
     let shelf = c.args.self.now.shelf.now.items in
     let n = next_keep _ _ moves m _ _ _ h here in

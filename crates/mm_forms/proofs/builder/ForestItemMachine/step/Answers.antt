@@ -54,7 +54,7 @@ returns-in_err-item-clause-stops g c =
 pub returns-clause-ran : goal.returns-clause-ran
 returns-clause-ran g c first prefix id there may ran =
     let e = entry_is c.args.self.now.entries.now c.args.index id (record { 0 = 0 }) (rw ran.same_entries there) in
-    built_more g.B.Builder.holds first c.args.self.now _ prefix _ ran refl refl refl (λ moves m here h.
+    built_more g.B.Builder.holds first c.args.self.now _ prefix _ ran refl refl refl refl (λ moves m here h.
     let stack = c.args.self.now.stack.now in
     let n = next_make _ _ moves m _ _ _ id h here in
     let long : vec_len stack ≡ length stack.items = search rules in

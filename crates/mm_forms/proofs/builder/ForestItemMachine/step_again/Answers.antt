@@ -46,7 +46,7 @@ returns-in_err-item-clause-stops g c =
 
 pub returns-clause-ran : goal.returns-clause-ran
 returns-clause-ran g c first prefix may ran =
-    built_more g.B.Builder.holds first c.args.self.now _ prefix _ ran refl refl refl (λ moves m here h.
+    built_more g.B.Builder.holds first c.args.self.now _ prefix _ ran refl refl refl refl (λ moves m here h.
     let stack = c.args.self.now.stack.now.items in
     let n = next_repeat _ _ moves m _ _ _ c.index.result.now c.args.tag h here c.index.ensures in
     let all = take_all c.len-end.result stack (let l = c.len-end.ensures in omega arith) in
