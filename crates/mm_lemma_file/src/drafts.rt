@@ -4,11 +4,12 @@ use crate::lemma_text::{lemma_text, proof_indent};
 use crate::lines::{indent_in, with_ends_of};
 use crate::page::{Own, Page};
 use mm_code::{MOST_INDENT, lay_out_small};
-use mm_frame::LabelId;
+use mm_frame::{LabelId, LabelKind};
 use mm_lemma_proofs::{Orders, Tree, small_of, tree_of};
 use mm_lemma_search::{Lemma, Search};
 use mm_patterns::{Change, Digram, Names, Proof, Theorem, own_proof};
 use mm_terms::{Listed, next_number};
+use mm_verdict::Checked;
 use std::alloc::{AllocError, Global};
 
 /// Lemmas on their way into a file.
@@ -23,12 +24,19 @@ pub(crate) struct Drafts<'p, 'a> {
     pub(crate) theorems: usize,
     /// For each lemma the numbers of its mandatory variables, in the order of the database.
     orders: Vec<Vec<u32>>,
+    /// For each lemma whether it may be put in, as it is chosen.
+    is_chosen: Vec<bool>,
     /// For each lemma whether it is put in.
     pub(crate) is_put: Vec<bool>,
-    /// For each theorem whether its proof is by lemmas that are put in.
+    /// For each theorem whether its proof is by lemmas.
     pub(crate) is_new: Vec<bool>,
     /// For each lemma the theorems whose proofs use it.
     pub(crate) users: Listed,
+}
+
+// What the old proof of the theorem with a label uses.
+fn used_before<'c>(checked: &'c Checked, id: LabelId) -> &'c [LabelId] {
+    checked.kept.used_by(id)
 }
 
 // The names of the terms and lemmas of a search.
@@ -68,17 +76,18 @@ fn order_of(alloc: Global, own: &Option<Own>, count: usize) -> Result<Vec<u32>, 
 }
 
 impl<'p, 'a> Drafts<'p, 'a> {
-    /// The lemmas of a search, and for each whether it is put in: not yet.
+    /// The lemmas of a search, and for each whether it is chosen. None is put in yet.
     pub(crate) fn new(
         alloc: Global,
         page: Page<'p, 'a>,
         search: Search,
-        is_put: Vec<bool>,
+        is_chosen: Vec<bool>,
     ) -> Drafts<'p, 'a> {
         Drafts {
             theorems: search.theorems.len(),
             users: Listed::new(alloc, page.book.seed()),
-            is_put,
+            is_chosen,
+            is_put: Vec::new(alloc),
             is_new: Vec::new(alloc),
             orders: Vec::new(alloc),
             alloc,
@@ -87,7 +96,7 @@ impl<'p, 'a> Drafts<'p, 'a> {
         }
     }
 
-    /// Takes in all lemmas that can stand in the file, and notes the proofs that use them.
+    /// Takes in all lemmas, and notes the proofs that use them.
     pub(crate) fn take_all(&mut self) -> Result<(), AllocError> {
         for lemma in 0..self.page.lemmas.len() {
             self.take_lemma(lemma)?;
@@ -95,6 +104,11 @@ impl<'p, 'a> Drafts<'p, 'a> {
         for index in 0..self.search.theorems.len() {
             self.note_users(index)?;
         }
+        Ok(())
+    }
+
+    /// Measures all proofs that are new.
+    pub(crate) fn measure_all(&mut self) -> Result<(), AllocError> {
         for index in 0..self.search.theorems.len() {
             self.measure(index)?;
         }
@@ -124,9 +138,8 @@ impl<'p, 'a> Drafts<'p, 'a> {
         let theorem = self.theorem_of(lemma, told, own)?;
         let can_stand = self.can_stand(told, own, &theorem.proof);
         self.search.theorems.push(theorem)?;
-        if let Some(is_put) = self.is_put.get_mut(lemma) {
-            *is_put = can_stand?;
-        }
+        let is_chosen = self.is_chosen.get(lemma).copied().unwrap_or(false);
+        self.is_put.push(can_stand? && is_chosen)?;
         Ok(())
     }
 
@@ -229,19 +242,34 @@ impl<'p, 'a> Drafts<'p, 'a> {
         Ok(lemmas)
     }
 
-    // Whether all of these lemmas are put in.
-    fn are_put(&self, lemmas: &[u32]) -> bool {
-        for lemma in lemmas {
-            if self.is_put.get(*lemma as usize).copied() != Some(true) {
-                return false;
-            }
-        }
-        true
-    }
-
     /// The lemma that the theorem with an index is, if it is one.
     pub(crate) fn lemma_at(&self, index: usize) -> Option<usize> {
         index.checked_sub(self.theorems)
+    }
+
+    /// Whether the theorem with a label may have a proof: a lemma may; so may a theorem of the file,
+    /// if its old proof used all assertions that this one uses, but for lemmas. Syntax that is proved
+    /// as a theorem is written by axioms here, which may be new.
+    pub(crate) fn may_have_proof(&self, id: LabelId, proof: &Proof) -> Result<bool, AllocError> {
+        if self.page.lemma_of(id.0).is_some() {
+            return Ok(true);
+        }
+        let span = self.page.sites.span(id);
+        if span.is_none() {
+            return Ok(false);
+        }
+        let used = used_before(self.page.checked, id);
+        let tree = self.tree(proof)?;
+        for index in 0..tree.len() {
+            let name = LabelId(tree.name(next_number(index)));
+            let is_old = name.0 < self.page.first_lemma();
+            let kind = self.page.book.kind(name);
+            let is_assertion = kind == LabelKind::Axiom || kind == LabelKind::Proof;
+            if is_old && is_assertion && !used.contains(&name) {
+                return Ok(false);
+            }
+        }
+        Ok(true)
     }
 
     // Notes which lemmas the proof of the theorem with an index uses.
@@ -252,7 +280,7 @@ impl<'p, 'a> Drafts<'p, 'a> {
         let lemmas = self.lemmas_in(&theorem.proof)?;
         let is_new = match self.lemma_at(index) {
             Some(lemma) => self.is_put.get(lemma).copied().unwrap_or(false),
-            None => !lemmas.is_empty() && self.are_put(&lemmas),
+            None => !lemmas.is_empty() && self.may_have_proof(theorem.id, &theorem.proof)?,
         };
         self.is_new.push(is_new)?;
         if is_new {

@@ -167,6 +167,8 @@ impl<'p, 'a> Drafts<'p, 'a> {
     /// shorter.
     pub(crate) fn write(&mut self) -> Result<Written, AllocError> {
         self.take_all()?;
+        self.leave_others()?;
+        self.measure_all()?;
         self.prune()?;
         self.written()
     }

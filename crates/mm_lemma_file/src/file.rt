@@ -9,7 +9,7 @@ use crate::labels::labels_of;
 use crate::page::Page;
 use crate::sites::{Sites, sites_of};
 use mm_lemma_search::{Lemma, Remarks, Search, remarks_of};
-use mm_lemmas::{FoundLemmas, Searched, Selection, Wording, lemma_search};
+use mm_lemmas::{FoundLemmas, Searched, Selection, Wording, chosen_lemmas, lemma_search};
 use mm_rules::{AskFault, bytes_of};
 use mm_verdict::{Checked, Watch};
 use std::alloc::{AllocError, Global};
@@ -21,6 +21,9 @@ pub struct LemmaWish<'w> {
     pub number: usize,
     /// Which lemmas.
     pub selection: Selection,
+    /// Where it isn't empty, those alone that are told on the lines with these numbers, from 1 on, of
+    /// the list of such lemmas, and those of which they are made.
+    pub chosen: &'w [usize],
     /// With what their labels begin: of what labels may have.
     pub prefix: &'w [u8],
     /// What their comments say; what each is made of where there is none.
@@ -42,8 +45,11 @@ pub struct LemmaFile {
 const DIGITS: usize = 2;
 
 // By what a search measures lemmas: too small rather than too large, since those that don't pay in
-// the end are left out again.
+// the end are left out again; but where lines of a list are chosen, as for that list.
 fn wording_of(wish: LemmaWish) -> Wording {
+    if !wish.chosen.is_empty() {
+        return Wording::usual();
+    }
     Wording {
         label: wish.prefix.len().saturating_add(DIGITS) as u64,
         comment: 0,
@@ -79,11 +85,16 @@ fn if_no_longer(
     as_it_is(alloc, old, is_cut)
 }
 
-// The lemmas of a search that pay, put into a file.
-fn drafted(alloc: Global, page: Page, search: Search) -> Result<Written, AllocError> {
-    match none_put(alloc, page.lemmas.len()) {
-        Ok(is_put) => {
-            let mut drafts = Drafts::new(alloc, page, search, is_put);
+// The lemmas of a search that are chosen and pay, put into a file.
+fn drafted(
+    alloc: Global,
+    page: Page,
+    search: Search,
+    is_chosen: Result<Vec<bool>, AllocError>,
+) -> Result<Written, AllocError> {
+    match is_chosen {
+        Ok(is_chosen) => {
+            let mut drafts = Drafts::new(alloc, page, search, is_chosen);
             let written = drafts.write();
             drop(drafts);
             written
@@ -93,11 +104,6 @@ fn drafted(alloc: Global, page: Page, search: Search) -> Result<Written, AllocEr
             Err(error)
         }
     }
-}
-
-// For each of so many lemmas that it isn't put in.
-fn none_put(alloc: Global, count: usize) -> Result<Vec<bool>, AllocError> {
-    vec![in alloc; false; count]
 }
 
 // Lemmas that were found for a file, put into it.
@@ -113,6 +119,7 @@ fn with_lemmas(
     match labels_of(alloc, wish.prefix, &sites.taken, lemmas.len()) {
         Ok(labels) => {
             let page = Page {
+                checked,
                 book: &checked.book,
                 bytes: bytes_of(checked.files, wish.number),
                 remarks,
@@ -121,7 +128,9 @@ fn with_lemmas(
                 labels: &labels,
                 comment: wish.comment,
             };
-            let written = drafted(alloc, page, search);
+            let (selection, chosen) = (wish.selection, wish.chosen);
+            let is_chosen = chosen_lemmas(alloc, checked, remarks, selection, lemmas, chosen);
+            let written = drafted(alloc, page, search, is_chosen);
             drop(labels);
             written
         }
@@ -167,7 +176,8 @@ fn file_with<W: Watch>(
     }
 }
 
-// A file with lemmas, of whose database this is said.
+// A file with lemmas, of whose database this is said. Where lines of a list are chosen, they are
+// sought as for that list: also by the proofs of other files.
 fn file_by<W: Watch>(
     alloc: Global,
     checked: &Checked,
@@ -178,15 +188,17 @@ fn file_by<W: Watch>(
     ensures memory { IfErr result (λ fault. fault ≡ Memory) }
 {
     let sites = sites_of(alloc, checked, wish.number, wish.prefix)?;
-    sites.bound(remarks);
+    if wish.chosen.is_empty() {
+        sites.bound(remarks);
+    }
     let file = file_with(alloc, checked, wish, remarks, &sites, watch);
     drop(sites);
     file
 }
 
-/// A file of a database with the lemmas put in that a search finds, as far as they pay, and with
-/// the proofs that become shorter by them. Only proofs of this file are written anew. The watch is
-/// told how far the search has come.
+/// A file of a database with the lemmas put in that a search finds, as far as they are chosen and
+/// pay, and with the proofs that become shorter by them. Only proofs of this file are written anew.
+/// The watch is told how far the search has come.
 ///
 /// # Errors
 ///

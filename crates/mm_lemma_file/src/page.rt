@@ -6,11 +6,13 @@ use crate::sites::Sites;
 use mm_frame::{Book, LabelId, Piece, Sym};
 use mm_lemma_search::{Lemma, Part, Remarks};
 use mm_terms::next_number;
+use mm_verdict::Checked;
 use std::alloc::{AllocError, Global};
 
 /// By what lemmas are written into a file.
 #[derive(Clone, Copy)]
 pub(crate) struct Page<'p, 'a> {
+    pub(crate) checked: &'p Checked<'a>,
     pub(crate) book: &'p Book<'a>,
     /// The bytes of the file.
     pub(crate) bytes: &'p [u8],

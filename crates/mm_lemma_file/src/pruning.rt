@@ -1,4 +1,5 @@
-//! Which lemmas pay: those without which the file would be longer, or as long.
+//! Which lemmas pay: those without which the file would be longer, or as long. What uses others is
+//! written without them.
 
 use crate::drafts::Drafts;
 use mm_lemma_proofs::{Expansion, expanded};
@@ -42,6 +43,61 @@ impl Balance {
 }
 
 impl<'p, 'a> Drafts<'p, 'a> {
+    /// Writes all proofs without the lemmas that aren't put in, the last ones first. A proof that
+    /// can't be without one of them stays as it was.
+    pub(crate) fn leave_others(&mut self) -> Result<(), AllocError> {
+        let mut budget = Budget::new(PRUNE_STEPS);
+        let count = self.page.lemmas.len();
+        for behind in 0..count {
+            let lemma = count - 1 - behind;
+            if self.is_put.get(lemma).copied() == Some(false) {
+                self.leave_other(lemma, &mut budget)?;
+            }
+        }
+        Ok(())
+    }
+
+    // Writes all proofs without a lemma that isn't put in.
+    fn leave_other(&mut self, lemma: usize, budget: &mut Budget) -> Result<(), AllocError> {
+        let users = self.users_of(lemma)?;
+        for user in &users {
+            let index = *user as usize;
+            if self.is_new.get(index).copied() != Some(true) {
+                continue;
+            }
+            match self.proof_without(lemma, index, budget)? {
+                Some(proof) => {
+                    let bytes = 0;
+                    self.put(
+                        lemma,
+                        Changed {
+                            index,
+                            proof,
+                            bytes,
+                        },
+                    )?;
+                }
+                None => self.keep_old(index),
+            }
+        }
+        Ok(())
+    }
+
+    // Keeps the proof of the theorem with an index as it was.
+    fn keep_old(&mut self, index: usize) {
+        if let Some(is_new) = self.is_new.get_mut(index) {
+            *is_new = false;
+        }
+    }
+
+    // The theorems that were noted to use a lemma, each once.
+    fn users_of(&self, lemma: usize) -> Result<Vec<u32>, AllocError> {
+        let mut users = Vec::from_slice(self.alloc, self.users.under(next_number(lemma)))?;
+        users.sort_unstable();
+        users.dedup();
+        Ok(users)
+    }
+
     /// Leaves out each lemma without which the file is shorter, the last ones first: what uses it
     /// is written without it.
     pub(crate) fn prune(&mut self) -> Result<(), AllocError> {
@@ -58,9 +114,7 @@ impl<'p, 'a> Drafts<'p, 'a> {
 
     // Leaves out a lemma, if the file is shorter without it.
     fn weigh(&mut self, lemma: usize, budget: &mut Budget) -> Result<(), AllocError> {
-        let mut users = Vec::from_slice(self.alloc, self.users.under(next_number(lemma)))?;
-        users.sort_unstable();
-        users.dedup();
+        let users = self.users_of(lemma)?;
         let mut changed = Vec::new(self.alloc);
         match self.is_shorter_without(lemma, &users, &mut changed, budget) {
             Ok(true) => self.leave_out(lemma, changed),
@@ -157,14 +211,23 @@ impl<'p, 'a> Drafts<'p, 'a> {
             lower: self.page.part_name(told.lower),
             pattern: &told.pattern,
         };
-        expanded(
+        let id = theorem.id;
+        let without = expanded(
             self.alloc,
             self.page.book.seed(),
             &mut self.search.library.terms,
             &theorem.proof,
             expansion,
             budget,
-        )
+        )?;
+        let Some(proof) = without else {
+            return Ok(None);
+        };
+        if self.may_have_proof(id, &proof)? {
+            return Ok(Some(proof));
+        }
+        drop(proof);
+        Ok(None)
     }
 
     // Leaves out a lemma: these proofs are written without it.
@@ -172,9 +235,7 @@ impl<'p, 'a> Drafts<'p, 'a> {
         if let Some(is_put) = self.is_put.get_mut(lemma) {
             *is_put = false;
         }
-        if let Some(is_new) = self.is_new.get_mut(self.theorems.saturating_add(lemma)) {
-            *is_new = false;
-        }
+        self.keep_old(self.theorems.saturating_add(lemma));
         for proof in changed {
             self.put(lemma, proof)?;
         }

@@ -94,6 +94,7 @@ impl Search {
                 watch.told(self.so_far(lemmas.len(), wanted, bytes));
             }
         }
+        watch.told(at_end(lemmas.len(), bytes));
         Ok(())
     }
 
@@ -478,6 +479,15 @@ fn gone(pattern: &Pattern) -> u64 {
     let fewer = variables.saturating_sub(pattern.mandatory);
     let merged = children.saturating_sub(pattern.essentials.len());
     fewer.saturating_add(merged) as u64
+}
+
+// How far a search has come that ends, and has found so many lemmas that save so many bytes.
+fn at_end(lemmas: usize, bytes: u64) -> SoFar {
+    SoFar {
+        theorems: lemmas,
+        of: lemmas,
+        bytes: bytes as usize,
+    }
 }
 
 // What a lemma says.

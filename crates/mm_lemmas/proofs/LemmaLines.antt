@@ -1,7 +1,7 @@
 -- The list of lemmas: line by line, with the sums over the lines. On this file rest the contracts of
 -- `listed` and of what it calls.
-use Rattle.std.proofs.Common.{◌≡◌, ℕ, ◌+◌, ◌<◌, ◌≤◌, List, [], ◌∷◌, ◌++◌, length, map}
-use Rattle.std.proofs.Common.{codes, None, min, refl, sym, ap, subst, ◌∙◌, arith, append_assoc}
+use Rattle.std.proofs.Common.{◌≡◌, ℕ, ◌+◌, ◌<◌, List, [], ◌∷◌, ◌++◌, length}
+use Rattle.std.proofs.Common.{codes, None, min, sym, ap, subst, ◌∙◌, arith, append_assoc}
 use Rattle.std.proofs.Common.{append-nil, length-append}
 use Rattle.std.specs.List.{flat_map, sum_by}
 use Rattle.std.proofs.lemmas.Grind.{flat_map-append}
@@ -11,10 +11,9 @@ use Rattle.mm_rules.specs.Shown.{symbols_text}
 use Rattle.mm_text.specs.Files.{PlainFile}
 use Rattle.mm_text.specs.Reading.{Reads}
 use Rattle.mm_lemmas.specs.declared.listing.Listing.{Listing}
-use Rattle.mm_lemmas.specs.declared.listing.Sums.{Sums}
 use Rattle.mm_lemmas.specs.Told.{AreLemmaLines, IsLemmaLine, LemmaLine, ListsLemmas, lemma_text}
 use Rattle.mm_lemmas.specs.Told.{most_sum, sum_of, sums_text}
-use Rattle.mm_lemmas.specs.Mirror.Listing.{AreSums, IsListedSoFar, PutsLine}
+use Rattle.mm_lemmas.specs.Mirror.Listing.{IsListedSoFar, PutsLine}
 
 -- ---- the text of a line
 

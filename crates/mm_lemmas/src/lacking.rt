@@ -64,6 +64,13 @@ const USUAL: Wording = Wording {
     comment: 58,
 };
 
+impl Wording {
+    /// By what lists of lemmas measure them.
+    pub fn usual() -> Wording {
+        USUAL
+    }
+}
+
 // The type code of the variable of a `$f`.
 fn floating_code(book: &Book, id: LabelId) -> Option<Sym> {
     if book.kind(id) == LabelKind::Floating {
@@ -240,8 +247,8 @@ fn search_for<W: Watch>(
     })
 }
 
-// By what the lemmas of a database are written of which this is said.
-fn words_of<'w, 'a>(remarks: &'w Remarks<'a>) -> Words<'w, 'a> {
+/// By what the lemmas of a database are written of which this is said.
+pub(crate) fn words_of<'w, 'a>(remarks: &'w Remarks<'a>) -> Words<'w, 'a> {
     Words {
         names: &remarks.names,
         variables: &remarks.variables,

@@ -1,8 +1,9 @@
 //! The lemmas of a search, as lines.
 
 ghost use Rattle.std.specs.Prelude.{◌≡◌, ◌+◌, ◌++◌, ◌≤◌, ◌<◌, List, [], codes, decimal, min};
-ghost use Rattle.std.specs.Prelude.{None, IfOk, IfSome, OnOk};
+ghost use Rattle.std.specs.Prelude.{None, IfOk, IfSome, OnOk, ℕ};
 ghost use Rattle.mm_base.specs.Statement.{PlainStatement};
+ghost use Rattle.mm_text.specs.Files.{PlainFile};
 ghost use Rattle.mm_text.specs.Reading.{Reads};
 ghost use Rattle.mm_lemmas.specs.Told.{ListsLemmas, LemmaLine, known_text, lemma_text, made_text};
 ghost use Rattle.mm_lemmas.specs.Told.{gain_text, most_sum, name_text, sums_text};
@@ -161,7 +162,8 @@ fn wanted_of<'a>(
     }
 }
 
-/// Lists the lemmas that can be told.
+/// Lists the lemmas that can be told, and answers for each the number of its line, or 0: of as many
+/// as there are until the list is full.
 fn list_each<'a>(
     list: &mut Listing,
     alloc: Global,
@@ -170,7 +172,7 @@ fn list_each<'a>(
     lemmas: &[Lemma],
     most: usize,
     least: usize,
-) -> Result<(), AllocError>
+) -> Result<Vec<usize>, AllocError>
     requires { IsListedSoFar most least checked.now.files [] list.old }
     ensures { OnOk result ((lines : List LemmaLine)
         × IsListedSoFar most least checked.now.files lines list.new) }
@@ -179,7 +181,7 @@ fn list_each<'a>(
     for lemma in lemmas {
         let before = list.sums.lemmas;
         if before >= most {
-            return Ok(());
+            return Ok(lines);
         }
         match wanted_of(alloc, checked, words, &lines, before, least, lemma)? {
             Some(told) => {
@@ -189,7 +191,38 @@ fn list_each<'a>(
             None => lines.push(0)?,
         }
     }
-    Ok(())
+    Ok(lines)
+}
+
+/// A list without lines.
+fn no_lines(alloc: Global) -> Listing
+    ensures { (files : List PlainFile) (most least : ℕ)
+        → IsListedSoFar most least files [] result }
+{
+    Listing {
+        text: Vec::new(alloc),
+        sums: Sums {
+            lemmas: 0,
+            saved: 0,
+            uses: 0,
+        },
+    }
+}
+
+/// For each of these lemmas the number of the line that tells it in such a list, or 0: of as many as
+/// there are until the list is full.
+pub(crate) fn lines_of<'a>(
+    alloc: Global,
+    checked: &Checked<'a>,
+    words: Words<'_, 'a>,
+    lemmas: &[Lemma],
+    most: usize,
+    least: usize,
+) -> Result<Vec<usize>, AllocError> {
+    let mut list = no_lines(alloc);
+    let lines = list_each(&mut list, alloc, checked, words, lemmas, most, least);
+    drop(list);
+    lines
 }
 
 /// A line for each of these lemmas, so many at most, that saves so many bytes or more, and the sums.
@@ -204,15 +237,9 @@ pub(crate) fn listed<'a>(
     ensures { IfOk result (λ text. (statements : List PlainStatement)
         → Reads checked.now.files statements None → ListsLemmas most least statements text.items) }
 {
-    let mut list = Listing {
-        text: Vec::new(alloc),
-        sums: Sums {
-            lemmas: 0,
-            saved: 0,
-            uses: 0,
-        },
-    };
-    list_each(&mut list, alloc, checked, words, lemmas, most, least)?;
+    let mut list = no_lines(alloc);
+    let lines = list_each(&mut list, alloc, checked, words, lemmas, most, least)?;
+    drop(lines);
     let Listing { mut text, sums } = list;
     sums.push(&mut text)?;
     Ok(text)

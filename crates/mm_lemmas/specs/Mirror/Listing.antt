@@ -1,7 +1,7 @@
 -- What the code knows on its way to the list of lemmas. This file mirrors the code, and is cited by
 -- private contracts alone.
-use Rattle.std.specs.Prelude.{◌≡◌, ℕ, ◌+◌, ◌≤◌, List, ◌∷◌, [], ◌++◌, length, min, map}
-use Rattle.std.specs.Prelude.{Option, Some, None, option_map}
+use Rattle.std.specs.Prelude.{◌≡◌, ℕ, ◌+◌, ◌≤◌, List, ◌++◌, length, min}
+use Rattle.std.specs.Prelude.{Option, None, option_map}
 use Rattle.std.specs.List.{flat_map}
 use Rattle.mm_base.specs.Statement.{PlainStatement}
 use Rattle.mm_code.specs.Layout.{texts}

@@ -2,7 +2,6 @@
 use Rattle.std.proofs.Common.{◌++◌, ◌∷◌, [], List, arith, subst, sym}
 use Rattle.mm_text.specs.Files.{PlainFile}
 use Rattle.mm_lemmas.specs.declared.listing.Listing.{Listing}
-use Rattle.mm_lemmas.specs.Told.{LemmaLine}
 use Rattle.mm_lemmas.specs.Mirror.Listing.{IsListedSoFar, line_of}
 use Rattle.mm_lemmas.proofs.LemmaLines.{listed_more}
 use Rattle.mm_lemmas.proofs.listing.list_each.Goals.{in-Some+in_ok-push-in-Some+in_ok-push-in-Some-2, in-None+in_ok-push-in-None}
