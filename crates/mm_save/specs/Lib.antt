@@ -1,3 +1,2 @@
 pub mod AllSaved
 pub mod Mirror
-pub mod WithLemmas

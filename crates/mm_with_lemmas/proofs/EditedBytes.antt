@@ -1,5 +1,5 @@
 -- Bytes with changes, place by place: each stands behind those before it.
-use Rattle.std.proofs.Common.{◌≡◌, ℕ, ◌+◌, ◌<◌, ◌≤◌, List, [], ◌∷◌, ◌++◌, map, length, take, drop}
+use Rattle.std.proofs.Common.{◌≡◌, ℕ, ◌+◌, ◌<◌, ◌≤◌, List, [], ◌∷◌, ◌++◌, length, take, drop}
 use Rattle.std.proofs.Common.{slice_get, slice_range, Some, inl, inr, refl, sym, ap, subst, ◌∙◌, arith}
 use Rattle.std.proofs.Common.{append_assoc, Bor, get_or, None, Option, take_all, ◌≢◌}
 use Rattle.std.specs.Prelude.{IfSome, MatchOption}
@@ -11,7 +11,7 @@ use Rattle.mm_base.proofs.Lists.{contains_from_at, get_before, pushed_cases}
 use Rattle.mm_proof.proofs.ProofNumbers.MoreLabels.{one_more}
 use Rattle.mm_save.specs.AllSaved.{Replacement, with_replaced}
 use Rattle.mm_save.specs.Mirror.AllSaving.{AreReplacedUpTo}
-use Rattle.mm_save.specs.WithLemmas.{AreApart}
+use Rattle.mm_with_lemmas.specs.WithLemmas.{AreApart}
 use Rattle.mm_save.proofs.Saving.ReplacedSpans.{all_replaced, replaced_on}
 use Rattle.mm_with_lemmas.specs.declared.change.Change.{Change}
 use Rattle.mm_with_lemmas.specs.Mirror.Editing.{IsEditedUpTo, place_of, places_of}

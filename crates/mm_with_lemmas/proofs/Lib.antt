@@ -4,3 +4,11 @@ pub mod LoneTexts
 pub mod SaidAlike
 pub mod ProofsAnew
 pub mod WalkedParts
+pub mod WalkedReadings
+pub mod HeldLemmas
+pub mod NamedUses
+pub mod FoundedTheorems
+pub mod HeededUses
+pub mod KeptRemarks
+pub mod JudgedFiles
+pub mod LemmaReplies

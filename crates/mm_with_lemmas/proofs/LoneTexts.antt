@@ -1,9 +1,9 @@
 -- The texts that are put in, each read by itself, and the statements that they hold.
 use Rattle.std.proofs.Common.{◌≡◌, ℕ, ◌+◌, ◌<◌, List, [], ◌∷◌, ◌++◌, map, length, take, get_or}
 use Rattle.std.proofs.Common.{Option, None, true, false, refl, sym, ap, subst, ◌∙◌, arith}
-use Rattle.std.proofs.Common.{append_assoc, append-nil, slice_get, Some}
+use Rattle.std.proofs.Common.{append_assoc, append-nil, slice_get, Some, length-append}
 use Rattle.std.specs.Prelude.{Ok}
-use Rattle.std.specs.List.{AllZip, flat_map}
+use Rattle.std.specs.List.{flat_map}
 use Rattle.std.proofs.lemmas.List.{get_or-map, map-append}
 use Rattle.std.proofs.lemmas.List.Concat.{flat_map-append}
 use Rattle.mm_base.specs.Statement.{PlainStatement, plain_statement}
@@ -14,12 +14,12 @@ use Rattle.std.proofs.lemmas.Option.{slice_get_read}
 use Rattle.mm_text.specs.Files.{PlainFile}
 use Rattle.mm_text.specs.Reading.{PlainFault, Reads}
 use Rattle.mm_text.specs.Remaining.{Gives, IsUnread, Remaining}
-use Rattle.mm_save.specs.WithLemmas.{Edit}
+use Rattle.mm_with_lemmas.specs.WithLemmas.{Edit}
 use Rattle.mm_with_lemmas.specs.declared.change.Change.{Change}
 use Rattle.mm_with_lemmas.specs.declared.change.Change.TheVariants.{Proof, Lemmas}
 use Rattle.mm_with_lemmas.specs.declared.lone.Put.{Put}
-use Rattle.mm_with_lemmas.specs.Mirror.Editing.{ArePut, HasPushed, IsEditOf, PutsIn, PutsMore}
-use Rattle.mm_with_lemmas.specs.Mirror.Editing.{lone_file, place_of, put_statements}
+use Rattle.mm_with_lemmas.specs.Mirror.Editing.{ArePut, HasPushed, IsEditOf, PutsIn, PutsLone}
+use Rattle.mm_with_lemmas.specs.Mirror.Editing.{PutsMore, lone_file, place_of, put_statements}
 
 -- ---- lists of which functions are the same
 
@@ -79,6 +79,20 @@ read_alone file left before put unread (ending, all) = (
   all,
 )
 
+-- it holds some where there are more of them then
+pub some_lone : (file : PlainFile) (before put : List PlainStatement)
+    → (lemmas : List PlainStatement) × Reads (file ∷ []) lemmas None × (put ≡ before ++ lemmas)
+    → length before < length put → PutsLone file before put
+some_lone file before put (lemmas, reads, all) more = (
+  lemmas,
+  reads,
+  λ none. absurd (let count = ap (λ (ss : List PlainStatement). length ss) all in
+      let joined = length-append before lemmas in
+      let empty = ap (λ (ss : List PlainStatement). length ss) none in
+      omega (arith, count, joined, empty, more)),
+  all,
+)
+
 -- ---- the statements of all texts
 
 -- a proof puts nothing in
@@ -91,15 +105,14 @@ proof_puts (Proof span text) put none = (
 )
 proof_puts (Lemmas at text) put none = absurd (none tt)
 
--- and lemmas what their text reads as
+-- and lemmas what their text reads as, if it holds some
 pub lemmas_put : (change : Change) (file : PlainFile) (before put : List PlainStatement)
-    → PutsIn change → file ≡ lone_file change
-    → (lemmas : List PlainStatement) × Reads (file ∷ []) lemmas None × (put ≡ before ++ lemmas)
+    → PutsIn change → file ≡ lone_file change → PutsLone file before put
     → PutsMore change before put
 lemmas_put (Proof span text) file before put some is h = absurd some
-lemmas_put (Lemmas at text) file before put some is (lemmas, reads, all) = (
+lemmas_put (Lemmas at text) file before put some is (lemmas, reads, holds, all) = (
   record { place = place_of (Lemmas at text); lemmas = lemmas },
-  (refl, subst (λ (f : PlainFile). Reads (f ∷ []) lemmas None) is reads),
+  (refl, subst (λ (f : PlainFile). Reads (f ∷ []) lemmas None) is reads, holds),
   all,
 )
 

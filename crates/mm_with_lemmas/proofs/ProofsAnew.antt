@@ -1,5 +1,5 @@
 -- A statement that was there, and another proof of it.
-use Rattle.std.proofs.Common.{◌≡◌, ℕ, List, [], ◌∷◌, ◌++◌, take, length, true, is_some, refl, sym, ap}
+use Rattle.std.proofs.Common.{◌≡◌, ℕ, List, ◌∷◌, ◌++◌, take, length, true, is_some, sym, ap}
 use Rattle.std.proofs.Common.{subst, ◌∙◌, not}
 use Rattle.std.proofs.Math.Seq.{take-append_seam}
 use Rattle.mm_base.specs.Statement.{PlainStatement}
@@ -12,7 +12,6 @@ use Rattle.mm_proof.specs.Strict.{HasFormOf, IsStrict}
 use Rattle.mm_proof.specs.Tokens.{is_incomplete}
 use Rattle.mm_rules.specs.Verdict.{is_proof, proof_of, sentences}
 use Rattle.mm_rules.proofs.Judgements.JudgedProofs.{labelled_said}
-use Rattle.mm_verdict.specs.Mirror.Rereading.{label_count}
 use Rattle.mm_verdict.proofs.Questions.AskedTheorems.{map-take}
 use Rattle.mm_verdict.proofs.Questions.TheoremsAgain.{at_next, said_label}
 use Rattle.mm_verdict.proofs.Verdicts.StatementByStatement.{provable_kind}

@@ -1,23 +1,16 @@
 -- The proofs that are replaced are those of theorems that aren't marked, which are met in their
 -- order.
-use Rattle.std.proofs.Common.{◌≡◌, ℕ, ◌+◌, ◌<◌, ◌≤◌, List, [], ◌∷◌, ◌++◌, map, length, take, slice_get}
-use Rattle.std.proofs.Common.{Contains, Option, Some, None, Bool, true, false, refl, sym, ap, subst}
-use Rattle.std.proofs.Common.{◌∙◌, ◌↔◌, append-nil, arith, get_or, take_all}
-use Rattle.std.specs.Prelude.{option_map, unwrap_or}
-use Rattle.std.specs.List.{AllByRecursion}
-use Rattle.std.proofs.lemmas.Bool.{false≢true}
+use Rattle.std.proofs.Common.{◌≡◌, ℕ, ◌+◌, ◌<◌, List, [], ◌∷◌, ◌++◌, length, take}
+use Rattle.std.proofs.Common.{Contains, None, true, refl, sym, ap, subst}
+use Rattle.std.proofs.Common.{◌∙◌, append-nil, arith, get_or, take_all}
 use Rattle.std.proofs.lemmas.List.Concat.{flat_map-append}
 use Rattle.std.proofs.lemmas.List.Elements.{Contains-append_left, Contains-push, filter-append}
-use Rattle.mm_base.specs.declared.file.File.{File}
 use Rattle.mm_base.specs.Statement.{PlainStatement}
 use Rattle.mm_base.proofs.Lists.{all_push, all_weaker}
-use Rattle.mm_frame.proofs.Names.NameNumbers.{get_mapped}
 use Rattle.mm_proof.proofs.ProofNumbers.MoreLabels.{one_more}
-use Rattle.mm_text.specs.Files.{PlainFile, plain_file}
+use Rattle.mm_text.specs.Files.{PlainFile}
 use Rattle.mm_text.specs.Reading.{Reads}
 use Rattle.mm_text.specs.Remaining.{IsUnread, Remaining}
-use Rattle.mm_text.specs.Remarks.{IsSaidBefore}
-use Rattle.mm_render.specs.Shorter.{IsMarkedWith, home_bytes, proof_mark}
 use Rattle.mm_rules.specs.Conclusion.{Conclusion}
 use Rattle.mm_verdict.proofs.Verdicts.AcceptedStatements.{same_reading}
 use Rattle.mm_save.specs.AllSaved.{is_theorem_of, theorems_of}

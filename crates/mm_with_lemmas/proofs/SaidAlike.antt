@@ -1,5 +1,5 @@
 -- Two statements that say the same, and the tokens of their proofs.
-use Rattle.std.proofs.Common.{◌≡◌, ℕ, List, map, Option, Some, None, Bool, true, false, not, ◌&&◌}
+use Rattle.std.proofs.Common.{◌≡◌, ℕ, List, Option, Some, None, Bool, true, false, not, ◌&&◌}
 use Rattle.std.proofs.Common.{option_map, refl, sym, ap, ◌∙◌, take, length, get_or, ◌<◌, ◌+◌, [], ◌∷◌}
 use Rattle.std.proofs.Common.{◌++◌}
 use Rattle.std.proofs.lemmas.List.{map-append}
@@ -15,7 +15,7 @@ use Rattle.mm_proof.proofs.ProofNumbers.MoreLabels.{one_more}
 use Rattle.mm_rules.specs.Verdict.{is_proof, proof_of}
 use Rattle.mm_rules.proofs.Judgements.JudgedProofs.{texts_of}
 use Rattle.mm_step.specs.Plain.{token_texts}
-use Rattle.mm_save.specs.WithLemmas.{said}
+use Rattle.mm_with_lemmas.specs.WithLemmas.{said}
 
 -- the texts of one more token
 pub texts_on : (tokens others : List Token) (i : ℕ) (d e : Token) → i < length tokens

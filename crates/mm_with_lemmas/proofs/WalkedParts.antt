@@ -1,7 +1,7 @@
 -- Two readings side by side, statement by statement: what was there and what was put in, and the
 -- blocks that are open.
-use Rattle.std.proofs.Common.{◌≡◌, ℕ, suc, ◌+◌, ◌<◌, ◌≤◌, List, [], ◌∷◌, ◌++◌, map, length, take, cond}
-use Rattle.std.proofs.Common.{slice_get, Some, true, false, ◌⊎◌, inl, inr, refl, sym, ap, subst, ◌∙◌}
+use Rattle.std.proofs.Common.{◌≡◌, ℕ, suc, ◌+◌, List, [], ◌∷◌, ◌++◌, map, length, take, cond}
+use Rattle.std.proofs.Common.{true, inl, inr, refl, sym, ap, subst, ◌∙◌}
 use Rattle.std.proofs.Common.{arith, append_assoc, append-nil, take_all}
 use Rattle.std.specs.List.{flat_map}
 use Rattle.std.proofs.lemmas.List.{map-append}
@@ -18,8 +18,8 @@ use Rattle.mm_frame.specs.Sentence.{Sentence, sentence_of}
 use Rattle.mm_frame.proofs.Blocks.NumberedBlocks.{closings-append, closings_one}
 use Rattle.mm_frame.proofs.Blocks.NumberedBlocks.{openings-append, openings_one}
 use Rattle.mm_rules.specs.Verdict.{is_proof, sentences}
-use Rattle.mm_save.specs.WithLemmas.{IsCondition, IsLemma, Kept, MayStand, Part, Put, new_of, old_of}
-use Rattle.mm_save.specs.WithLemmas.{put_of, said}
+use Rattle.mm_with_lemmas.specs.WithLemmas.{IsCondition, IsLemma, Kept, MayStand, Part, Put, new_of, old_of}
+use Rattle.mm_with_lemmas.specs.WithLemmas.{put_of, said}
 use Rattle.mm_with_lemmas.specs.declared.lemma.Place.{Place}
 use Rattle.mm_with_lemmas.specs.declared.lemma.Stage.{Stage}
 use Rattle.mm_with_lemmas.specs.declared.lemma.Stage.TheVariants.{Outside, Conditions, Proved}

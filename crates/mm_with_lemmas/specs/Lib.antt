@@ -1,1 +1,3 @@
 pub mod Mirror
+pub mod Reply
+pub mod WithLemmas

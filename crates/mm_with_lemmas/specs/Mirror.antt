@@ -3,3 +3,6 @@
 -- specs/.
 pub mod Editing
 pub mod Walking
+pub mod Using
+pub mod Remarking
+pub mod Founding

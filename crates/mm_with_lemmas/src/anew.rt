@@ -6,7 +6,7 @@ ghost use Rattle.mm_text.specs.Files.{plain_file};
 ghost use Rattle.mm_frame.specs.Sentence.{sentence_in};
 ghost use Rattle.mm_rules.specs.Verdict.{is_proof, proof_of, sentences};
 ghost use Rattle.mm_proof.specs.Strict.{IsStrict};
-ghost use Rattle.mm_save.specs.WithLemmas.{IsProvedAnew, Kept, MayStand};
+ghost use Rattle.mm_with_lemmas.specs.WithLemmas.{IsProvedAnew, Kept, MayStand};
 ghost use Rattle.mm_with_lemmas.specs.Mirror.Walking.{IsNext};
 
 use crate::replaced::{is_theorem, may_be_marked};

@@ -5,7 +5,7 @@ ghost use Rattle.mm_with_lemmas.specs.Mirror.Editing.{place_of};
 
 /// What is written at a place of a file.
 #[derive(Clone, Copy)]
-pub enum Change<'a> {
+pub(crate) enum Change<'a> {
     /// A text in place of the proof that stands in a span: between its `$=` and its `$.`.
     Proof { span: (u32, u32), text: &'a [u8] },
     /// A text that is put in at a position: lemmas, with their comments.
@@ -15,7 +15,7 @@ pub enum Change<'a> {
 impl<'a> Change<'a> {
     /// The span of the old bytes in whose place the text stands; an empty one where lemmas are put
     /// in.
-    pub fn span(&self) -> (u32, u32)
+    pub(crate) fn span(&self) -> (u32, u32)
         ensures { result ≡ (place_of self.now).span }
     {
         match *self {
@@ -25,7 +25,7 @@ impl<'a> Change<'a> {
     }
 
     /// The text.
-    pub fn text(&self) -> &'a [u8]
+    pub(crate) fn text(&self) -> &'a [u8]
         ensures { result.now ≡ (place_of self.now).text }
     {
         match *self {

@@ -2,7 +2,7 @@
 
 ghost use Rattle.std.specs.Prelude.{◌≡◌, ◌≤◌, ◌++◌, length, IsTrue, IfSome};
 ghost use Rattle.mm_save.specs.AllSaved.{with_replaced};
-ghost use Rattle.mm_save.specs.WithLemmas.{AreApart};
+ghost use Rattle.mm_with_lemmas.specs.WithLemmas.{AreApart};
 ghost use Rattle.mm_with_lemmas.specs.Mirror.Editing.{places_of};
 
 use crate::change::Change;
@@ -20,7 +20,7 @@ fn behind<'b>(bytes: &'b [u8], kept: &[u8], text: &[u8]) -> Option<&'b [u8]>
 /// Whether the changes stand in the bytes of a source, each behind those before it, and the bytes
 /// are these with the texts of the changes in place of their spans, and no more than the source
 /// has.
-pub fn are_edited(source: &[u8], changes: &[Change], bytes: &[u8]) -> bool
+pub(crate) fn are_edited(source: &[u8], changes: &[Change], bytes: &[u8]) -> bool
     ensures apart { IsTrue result → AreApart (length source.now) (places_of changes.now) }
     ensures whole { IsTrue result
         → bytes.now ≡ with_replaced source.now (places_of changes.now) }

@@ -1,21 +1,29 @@
-//! The judge of a file into which lemmas are put, whoever wrote it: its parts so far.
-//! It answers `are_edited`, whether bytes are those of a file with changes, and no more;
-//! `proofs_stand`, whether each proof that is replaced is that of a theorem which may have another;
-//! and `read_texts`, what the texts that are put in hold, each read by itself. Whether a statement
-//! may read as it does now (`anew`), and how a lemma goes on (`lemma`), has no caller yet. Each says
-//! yes only where it is so. It stands on `mm_save`. Begin with `edited`; what such a file is stands
-//! in `specs/WithLemmas.antt` of `mm_save`.
+//! A file into which lemmas are put, and its judge, whoever wrote it. The judge tells whether the
+//! statements are the old ones in their order, but for proofs, and new ones that are lemmas alone;
+//! whether each proof is the old one, or one that may stand in its place and newly uses lemmas
+//! alone; whether what is newly used may be used; whether marks and mathboxes say of the old
+//! statements what they said; whether no theorem rests on more; and whether each byte outside of
+//! proofs and of what is put in is kept. It says yes only where it is so, and only then the file is
+//! given. It stands on `mm_lemma_file` and `mm_minimize`. Begin with `reply`, then `judged` and
+//! `holds`; `walk`, `lemma`, `uses`, `remarked`, `founded` and `edited` are parts of the judge.
+//! What such a file is stands in `specs/WithLemmas.antt`, the reply in `specs/Reply.antt`.
 #![tactic(auto)]
 
 mod anew;
 mod change;
 mod edited;
+mod founded;
+mod holds;
+mod judged;
 mod lemma;
 mod lone;
+mod remarked;
 mod replaced;
+mod reply;
 mod said;
+mod stamps;
+mod uses;
+mod walk;
 
-pub use change::Change;
-pub use edited::are_edited;
-pub use lone::{Put, lone_files, read_texts};
-pub use replaced::proofs_stand;
+pub use judged::{JudgedFile, judged_lemma_file};
+pub use reply::{LemmaReply, lemma_file_reply};

@@ -4,7 +4,7 @@ ghost use Rattle.std.specs.Prelude.{◌≡◌, ◌++◌, ◌∷◌, [], List, ma
 ghost use Rattle.mm_base.specs.Statement.{PlainStatement};
 ghost use Rattle.mm_text.specs.Files.{plain_file};
 ghost use Rattle.mm_text.specs.Reading.{Reads};
-ghost use Rattle.mm_with_lemmas.specs.Mirror.Editing.{ArePut, PutsMore, lone_file};
+ghost use Rattle.mm_with_lemmas.specs.Mirror.Editing.{ArePut, PutsLone, PutsMore, lone_file};
 ghost use Rattle.mm_with_lemmas.specs.Mirror.Editing.{put_statements};
 
 use crate::change::Change;
@@ -15,15 +15,18 @@ use std::slice;
 
 /// A statement that is put in.
 #[derive(Drop)]
-pub struct Put<'t> {
+pub(crate) struct Put<'t> {
     /// Where it begins in the new bytes. This is a hint: nothing that is answered depends on it.
-    pub at: usize,
+    pub(crate) at: usize,
     /// It, as it is read in its text alone.
-    pub statement: Statement<'t>,
+    pub(crate) statement: Statement<'t>,
 }
 
 /// The texts of the changes, each as a file of its own without a name.
-pub fn lone_files<'t>(alloc: Global, changes: &[Change<'t>]) -> Result<Vec<File<'t>>, AllocError>
+pub(crate) fn lone_files<'t>(
+    alloc: Global,
+    changes: &[Change<'t>],
+) -> Result<Vec<File<'t>>, AllocError>
     ensures { IfOk result (λ files. map plain_file files.items ≡ map lone_file changes.now) }
 {
     let mut files = Vec::new(alloc);
@@ -80,6 +83,25 @@ fn push_lone<'t>(
     }
 }
 
+/// Appends the statements of a file that is read alone, and tells whether it has one at least and
+/// no fault.
+fn push_some<'t>(
+    alloc: Global,
+    seed: Seed,
+    file: &'t File<'t>,
+    start: usize,
+    put: &mut Vec<Put<'t>>,
+) -> Result<bool, AllocError>
+    ensures { IfOk result (λ whole. IsTrue whole → PutsLone (plain_file file.now)
+        (put_statements put.old.items) (put_statements put.new.items)) }
+{
+    let before = put.len();
+    if !push_lone(alloc, seed, file, start, put)? {
+        return Ok(false);
+    }
+    Ok(before < put.len())
+}
+
 /// How far changes have come: a position in the old bytes, and where it is in the new ones.
 #[derive(Clone, Copy)]
 struct Shift {
@@ -105,7 +127,8 @@ impl Shift {
     }
 }
 
-/// Appends what a change puts in, where its text, which the file has alone, has no fault.
+/// Appends what a change puts in, where its text, which the file has alone, holds something and has
+/// no fault.
 fn push_change<'t>(
     alloc: Global,
     seed: Seed,
@@ -120,12 +143,12 @@ fn push_change<'t>(
 {
     match change {
         Change::Proof { .. } => Ok(true),
-        Change::Lemmas { .. } => push_lone(alloc, seed, file, start, put),
+        Change::Lemmas { .. } => push_some(alloc, seed, file, start, put),
     }
 }
 
 /// Appends the statements that the changes put in, where each of their texts, which the files have
-/// alone, has no fault.
+/// alone, holds something and has no fault.
 fn push_changes<'t>(
     alloc: Global,
     seed: Seed,
@@ -150,8 +173,8 @@ fn push_changes<'t>(
 }
 
 /// The statements that the changes put in, in their order, each text read by itself; none where
-/// one of these texts has a fault.
-pub fn read_texts<'t>(
+/// one of these texts has a fault, or holds none.
+pub(crate) fn read_texts<'t>(
     alloc: Global,
     seed: Seed,
     changes: &[Change],

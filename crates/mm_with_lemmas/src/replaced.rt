@@ -121,7 +121,7 @@ fn are_met<'a>(
 
 /// Whether each change that replaces a proof does so in the span of a theorem of the file with the
 /// number whose proof isn't marked to stay as it is.
-pub fn proofs_stand(
+pub(crate) fn proofs_stand(
     alloc: Global,
     checked: &Checked,
     number: usize,

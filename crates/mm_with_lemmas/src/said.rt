@@ -4,7 +4,7 @@ ghost use Rattle.std.specs.Prelude.{◌≡◌, IsTrue, option_map};
 ghost use Rattle.mm_base.specs.Statement.{plain_statement};
 ghost use Rattle.mm_frame.specs.Sentence.{sentence_in};
 ghost use Rattle.mm_rules.specs.Verdict.{proof_of};
-ghost use Rattle.mm_save.specs.WithLemmas.{said};
+ghost use Rattle.mm_with_lemmas.specs.WithLemmas.{said};
 ghost use Rattle.mm_step.specs.Plain.{token_texts};
 
 use mm_base::{Kind, Statement, Token};

@@ -1,6 +1,6 @@
 -- What the code knows of the changes of a file: where they stand, and what the texts that are put
 -- in hold. This file mirrors the code.
-use Rattle.std.specs.Prelude.{◌≡◌, ℕ, ◌≤◌, List, [], ◌∷◌, ◌++◌, map, length, Contains, None}
+use Rattle.std.specs.Prelude.{◌≡◌, ◌≢◌, ℕ, ◌≤◌, List, [], ◌∷◌, ◌++◌, map, length, Contains, None}
 use Rattle.std.specs.Prelude.{true}
 use Rattle.std.specs.List.{flat_map, AllByRecursion, AllZip}
 use Rattle.mm_base.specs.Statement.{PlainStatement, plain_statement}
@@ -11,7 +11,7 @@ use Rattle.mm_render.specs.Shorter.{IsMarkedWith, proof_mark}
 use Rattle.mm_rules.specs.Verdict.{is_proof}
 use Rattle.mm_save.specs.AllSaved.{Replacement, theorems_of}
 use Rattle.mm_save.specs.Mirror.AllSaving.{AreReplacedUpTo}
-use Rattle.mm_save.specs.WithLemmas.{AreApart, AreEdited, Edit, alone}
+use Rattle.mm_with_lemmas.specs.WithLemmas.{AreApart, AreEdited, Edit, alone}
 use Rattle.mm_with_lemmas.specs.declared.change.Change.{Change}
 use Rattle.mm_with_lemmas.specs.declared.change.Change.TheVariants.{Proof, Lemmas}
 use Rattle.mm_with_lemmas.specs.declared.lone.Put.{Put}
@@ -93,17 +93,24 @@ pub record HasPushed (first left : Remaining) (before put : List PlainStatement)
   pub all : put ≡ before ++ pushed
   pub ending : left.ending ≡ first.ending
 
+-- the file reads as some statements, which were put behind those before
+abbrev pub PutsLone : PlainFile → (before put : List PlainStatement) → Type 0
+PutsLone file before put =
+    (lemmas : List PlainStatement) × Reads (file ∷ []) lemmas None × (lemmas ≢ [])
+    × (put ≡ before ++ lemmas)
+
 -- lemmas are put in
 abbrev pub PutsIn : Change → Type 0
 PutsIn (Proof span text) = ⊥
 PutsIn (Lemmas at text) = Unit {0}
 
--- what the change is: a proof, or a text that reads by itself as these statements
+-- what the change is: a proof, or a text that reads by itself as these statements, one at least
 abbrev pub IsEditOf : Change → Edit → Type 0
 IsEditOf (Proof span text) edit =
     (edit.place ≡ place_of (Proof span text)) × (edit.lemmas ≡ [])
 IsEditOf (Lemmas at text) edit =
     (edit.place ≡ place_of (Lemmas at text)) × Reads (alone edit.place.text) edit.lemmas None
+    × (edit.lemmas ≢ [])
 
 -- the change puts these statements in behind those before
 abbrev pub PutsMore : Change → (before put : List PlainStatement) → Type 0

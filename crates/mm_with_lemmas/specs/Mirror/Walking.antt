@@ -1,22 +1,26 @@
 -- What the code knows on its way through two readings side by side: the old statements, and those
 -- of the files with lemmas. This file mirrors the code.
-use Rattle.std.specs.Prelude.{◌≡◌, ℕ, ◌+◌, ◌≤◌, List, [], ◌∷◌, ◌++◌, map, take, length, slice_get}
-use Rattle.std.specs.Prelude.{Some, true, ◌⊎◌, All, sum_by, is_some, if◌then◌else◌}
-use Rattle.std.specs.List.{flat_map, AllByRecursion}
+use Rattle.std.specs.Prelude.{◌≡◌, ℕ, ◌+◌, ◌≤◌, ◌<◌, List, [], ◌∷◌, ◌++◌, map, take, length}
+use Rattle.std.specs.Prelude.{slice_get, Option, Some, true, ◌⊎◌, All, sum_by, is_some}
+use Rattle.std.specs.Prelude.{if◌then◌else◌}
+use Rattle.std.specs.List.{flat_map}
 use Rattle.mm_base.specs.declared.statement.Kind.{Kind}
 use Rattle.mm_base.specs.declared.statement.Kind.TheVariants.{Opening, Closing}
 use Rattle.mm_base.specs.MostBytes.{most_bytes}
 use Rattle.mm_base.specs.Statement.{PlainStatement, HasForm}
 use Rattle.mm_text.specs.Files.{PlainFile}
+use Rattle.mm_text.specs.Reading.{PlainFault, Reads}
+use Rattle.mm_text.specs.Remaining.{Remaining}
 use Rattle.mm_frame.specs.Active.{open_marks, close_marks}
 use Rattle.mm_frame.specs.Sentence.{Sentence}
-use Rattle.mm_rules.specs.Verdict.{is_proof, proof_of, sentences}
+use Rattle.mm_rules.specs.Verdict.{CanBeRead, is_proof, proof_of, sentences}
 use Rattle.mm_verdict.specs.Mirror.Rereading.{label_count}
-use Rattle.mm_save.specs.WithLemmas.{AreEdited, IsBlockOf, IsCondition, MayStand, Part}
-use Rattle.mm_save.specs.WithLemmas.{new_of, old_of, put_of, said}
+use Rattle.mm_with_lemmas.specs.WithLemmas.{AreEdited, IsBlockOf, IsCondition, MayStand, Part}
+use Rattle.mm_with_lemmas.specs.WithLemmas.{new_of, old_of, put_of, said}
 use Rattle.mm_with_lemmas.specs.declared.lemma.Stage.{Stage}
 use Rattle.mm_with_lemmas.specs.declared.lemma.Stage.TheVariants.{Outside, Conditions, Proved}
 use Rattle.mm_with_lemmas.specs.declared.lemma.Place.{Place}
+use Rattle.mm_with_lemmas.specs.declared.walk.Walk.{Walk}
 
 -- ---- the parts of two readings
 
@@ -33,7 +37,7 @@ pub record AreParts (files : List PlainFile)
 
 -- The statements are those of the files, the others those of the files with these bytes in place
 -- of those that the file with the number had: the file has lemmas and new proofs that may stand
--- there, whatever these use.
+-- there.
 pub record HoldsLemmas (files : List PlainFile) (statements others : List PlainStatement)
     (number : ℕ) (old_bytes bytes : List ℕ) : Type 0 where
   pub parts : List Part
@@ -155,6 +159,32 @@ GoesOver files told put id left at s left_after after =
     → IsWalked files statements put taken left at
     → IsWalked files statements put (taken ++ s ∷ []) left_after after
 
--- the tokens of each proof have room
-abbrev pub HaveRoom : List PlainStatement → Type 0
-HaveRoom statements = AllByRecursion (λ s. sum_by length (proof_of s) ≤ most_bytes) statements
+-- nothing was met yet, and these statements are left
+pub record IsBegunWalk (all : Remaining) (walk : Walk) : Type 0 where
+  pub left : walk.left ≡ all
+  pub labelled : walk.labelled ≡ 0
+  pub place : walk.place ≡ record { put = 0; depth = 0; stage = Outside }
+
+-- files without a fault as a whole hold these statements, few of which have labels, and the
+-- sentences are theirs
+pub record IsToldReading (told : List Sentence) (statements : List PlainStatement) : Type 0 where
+  pub files : List PlainFile
+  pub ending : Option PlainFault
+  pub readable : CanBeRead files
+  pub reads : Reads files statements ending
+  pub same : told ≡ sentences statements
+  pub few : label_count statements < 4294967295
+
+-- no old statement is left, and none that was put
+pub record IsWalkedAll (put left : List PlainStatement) (at : Place) : Type 0 where
+  pub none : left ≡ []
+  pub outside : at.stage ≡ Outside
+  pub all : at.put ≡ length put
+
+-- these of all statements are left, and over the others the walk has gone
+pub record IsOnWalk (files : List PlainFile) (statements put all rest : List PlainStatement)
+    (walk : Walk) : Type 0 where
+  pub taken : List PlainStatement
+  pub whole : all ≡ taken ++ rest
+  pub count : walk.labelled ≡ label_count taken
+  pub walked : IsWalked files statements put taken walk.left.statements walk.place

@@ -14,8 +14,8 @@ returns-in-Proof c = λ t.
 
 pub returns-in-Lemmas : goal.returns-in-Lemmas
 returns-in-Lemmas c =
-    IfOk-weaker c.push_lone.result _ _
+    IfOk-weaker c.push_some.result _ _
     (λ whole h t. lemmas_put c.args.change.now (plain_file c.args.file.now)
-    (put_statements c.args.put.now.items) (put_statements c.push_lone.new.put.items)
+    (put_statements c.args.put.now.items) (put_statements c.push_some.new.put.items)
     (subst PutsIn (sym c.in-Lemmas.is) tt) c.requires (h t))
-    c.push_lone.ensures
+    c.push_some.ensures

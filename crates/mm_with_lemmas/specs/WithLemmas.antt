@@ -1,8 +1,8 @@
 -- A file into which lemmas are put, beside the file as it was: what may change, and what is kept.
 -- Statements, blocks and proofs are those of the Metamath book, sections 4.2 to 4.4; which lemmas
 -- may be put in, and what proofs may do with them, is this project's own.
-use Rattle.std.specs.Prelude.{◌≡◌, ◌⊎◌, ℕ, ◌<◌, ◌≤◌, List, [], ◌∷◌, ◌++◌, map, length, All}
-use Rattle.std.specs.Prelude.{Contains, Some, None, slice_get, filter, true}
+use Rattle.std.specs.Prelude.{◌≡◌, ◌≢◌, ◌⊎◌, ◌↔◌, ℕ, ◌<◌, ◌≤◌, List, [], ◌∷◌, ◌++◌, map, length}
+use Rattle.std.specs.Prelude.{All, Contains, Some, None, slice_get, true}
 use Rattle.std.specs.List.{flat_map}
 use Rattle.mm_base.specs.declared.statement.Kind.TheVariants.{Distinct, Essential}
 use Rattle.mm_base.specs.declared.statement.Kind.TheVariants.{Opening, Closing}
@@ -15,8 +15,9 @@ use Rattle.mm_frame.specs.Sentence.{Sentence, sentence_of}
 use Rattle.mm_step.specs.declared.profile.Profile.{Profile}
 use Rattle.mm_proof.specs.Strict.{IsStrict}
 use Rattle.mm_rules.specs.Rests.{IsNamed, RestsOn, Uses}
-use Rattle.mm_rules.specs.Verdict.{AreAccepted, is_proof, labels_of, proof_of, sentences}
-use Rattle.mm_render.specs.Shorter.{IsMarkedWith, IsUnfounded, MayUse, proof_mark}
+use Rattle.mm_rules.specs.Verdict.{AreAccepted, is_proof, proof_of, sentences}
+use Rattle.mm_render.specs.Shorter.{IsMarkedWith, IsUnfounded, MayUse, mathbox_of, proof_mark}
+use Rattle.mm_render.specs.Shorter.{usage_mark}
 use Rattle.mm_save.specs.AllSaved.{Replacement, theorems_of, with_replaced}
 
 -- ---- what is read
@@ -41,10 +42,6 @@ new_of (Put lemma) = lemma
 abbrev pub put_of : Part → List PlainStatement
 put_of (Kept old new) = []
 put_of (Put lemma) = lemma
-
--- the labels of the lemmas, without those of their hypotheses
-abbrev pub lemma_labels : List Part → List (List ℕ)
-lemma_labels parts = labels_of (filter is_proof (flat_map put_of parts))
 
 -- what a statement says, with its proof, wherever it stands
 abbrev pub said : PlainStatement → Sentence × List (List ℕ)
@@ -97,6 +94,16 @@ UsesNamed statements label used =
     (id : ℕ) × (n : ℕ) × IsNamed statements label (λ s. Unit {0}) id
     × IsNamed statements used (λ a. Unit {0}) n × Uses statements id n
 
+-- a statement has the label
+abbrev pub IsThere : List PlainStatement → (label : List ℕ) → Type 0
+IsThere statements label = (id : ℕ) × IsNamed statements label (λ s. Unit {0}) id
+
+-- a theorem that was there newly uses nothing else that was there
+abbrev pub UseLemmasAlone : (statements others : List PlainStatement) → Type 0
+UseLemmasAlone statements others =
+    (label used : List ℕ) → IsThere statements label → UsesNamed others label used
+    → UsesNamed statements label used ⊎ ¬ (IsThere statements used)
+
 -- the theorem with the label rests on the axiom, or the unproved theorem, with the other label
 abbrev pub RestsOnNamed : List PlainStatement → (label basis : List ℕ) → Type 0
 RestsOnNamed statements label basis =
@@ -109,6 +116,22 @@ abbrev pub MayUseNamed : List PlainFile → List PlainStatement → (label used 
 MayUseNamed files statements label used =
     (id : ℕ) (n : ℕ) (s a : PlainStatement) → IsNamed statements label (λ t. t ≡ s) id
     → IsNamed statements used (λ t. t ≡ a) n → MayUse files s a
+
+-- ---- what is said of statements
+
+-- What is said of a statement where it stands is said of the other one where that stands: the same
+-- marks before it, and the same mathbox.
+pub record AreSaidAlike (files anew : List PlainFile) (s t : PlainStatement) : Type 0 where
+  pub usage : IsMarkedWith usage_mark files s ↔ IsMarkedWith usage_mark anew t
+  pub proof : IsMarkedWith proof_mark files s ↔ IsMarkedWith proof_mark anew t
+  pub mathbox : mathbox_of files s ≡ mathbox_of anew t
+
+-- the same is said of each labelled statement that was there
+abbrev pub AreRemarksKept : (files anew : List PlainFile)
+    → (statements others : List PlainStatement) → Type 0
+AreRemarksKept files anew statements others =
+    (label : List ℕ) (id n : ℕ) (s t : PlainStatement) → IsNamed statements label (λ x. x ≡ s) id
+    → IsNamed others label (λ x. x ≡ t) n → AreSaidAlike files anew s t
 
 -- ---- what is written
 
@@ -128,10 +151,12 @@ IsProofEdit files statements number edit =
     (s : PlainStatement) × Contains (theorems_of number statements) s
     × ¬ (IsMarkedWith proof_mark files s) × (edit.place.span ≡ s.span) × (edit.lemmas ≡ [])
 
--- lemmas are put in between two bytes: the text is read by itself, with its comments, as they are
+-- Lemmas are put in between two bytes: the text is read by itself, with its comments, as they are.
+-- It holds one at least, so that no text stands where nothing is read, as inside a comment.
 abbrev pub IsLemmaEdit : Edit → Type 0
 IsLemmaEdit edit =
     (edit.place.span.0 ≡ edit.place.span.1) × Reads (alone edit.place.text) edit.lemmas None
+    × (edit.lemmas ≢ [])
 
 -- each place stands behind those before it, and all in so many bytes
 pub record AreApart (count : ℕ) (places : List Replacement) : Type 0 where
@@ -153,9 +178,10 @@ pub record AreEdited (files : List PlainFile) (statements : List PlainStatement)
 
 -- The statements are those of the files, and these are bytes of the file with the number into which
 -- lemmas are put. With them the files are accepted. All statements are there, in their order, and
--- others are lemmas alone. A theorem that was there newly uses lemmas alone, and whatever a theorem
--- or a lemma newly uses it may use. No theorem that was there rests on an axiom, or on an unproved
--- theorem, on which it didn't rest. The file isn't longer.
+-- others are lemmas alone. A theorem that was there newly uses nothing else that was there, and so
+-- lemmas alone; and whatever a theorem or a lemma newly uses it may use. What marks and mathboxes
+-- said of a statement that was there they say still. No theorem that was there rests on an axiom,
+-- or on an unproved theorem, on which it didn't rest. The file isn't longer.
 pub record IsWithLemmas (profile : Profile) (files : List PlainFile)
     (statements : List PlainStatement) (number : ℕ) (bytes : List ℕ) : Type 0 where
   pub file : PlainFile
@@ -167,13 +193,12 @@ pub record IsWithLemmas (profile : Profile) (files : List PlainFile)
   pub new : others ≡ flat_map new_of parts
   pub each : (before after : List Part) (part : Part) → parts ≡ before ++ part ∷ after
       → MayStand files (flat_map new_of before) part
-  pub by_lemmas : (label used : List ℕ) → Contains (labels_of statements) label
-      → UsesNamed others label used
-      → UsesNamed statements label used ⊎ Contains (lemma_labels parts) used
+  pub by_lemmas : UseLemmasAlone statements others
   pub allowed : (label used : List ℕ) → UsesNamed others label used
       → UsesNamed statements label used
       ⊎ MayUseNamed (with_bytes files number bytes) others label used
-  pub founded : (label basis : List ℕ) → Contains (labels_of statements) label
+  pub remarked : AreRemarksKept files (with_bytes files number bytes) statements others
+  pub founded : (label basis : List ℕ) → IsThere statements label
       → RestsOnNamed others label basis → RestsOnNamed statements label basis
   pub edited : AreEdited files statements number file.bytes bytes (flat_map put_of parts)
   pub no_longer : length bytes ≤ length file.bytes
