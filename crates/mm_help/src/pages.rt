@@ -3,7 +3,7 @@
 ghost use Rattle.std.specs.Prelude.{◌≡◌, codes, map, IsTrue};
 ghost use Rattle.std.specs.List.{AllByRecursion};
 ghost use Rattle.mm_help.specs.Pages.{is_page_of};
-ghost use Rattle.mm_words.specs.Words.{command_names};
+ghost use Rattle.mm_words.specs.CommandLine.{command_names};
 
 /// A command by its name, and what is told of it.
 #[derive(Clone, Copy)]
@@ -154,7 +154,7 @@ Example:
   mm users ax-mp set.mm
 ";
 
-const STATEMENT: &str = "Usage: mm statement LABEL FILES..
+const STATEMENT: &str = "Usage: mm statement [--comment] LABEL FILES..
        mm statement --all FILES..
 
 Tells what stands at this label: a statement of any kind, and of an axiom or a
@@ -162,7 +162,9 @@ theorem its frame. No proof is judged, and nothing behind the statement is read:
 so it answers where a proof, or what stands further down, is at fault.
 
 Options:
-  --all   a line for each axiom and each theorem, as `mm find` prints it
+  --comment   first the comment right before the statement, as it stands in the
+              file; nothing where something else stands between
+  --all       a line for each axiom and each theorem, as `mm find` prints it
 
 Replies:
   FILE:LINE:COLUMN, and then lines as in the file, with no end      status 0
@@ -179,6 +181,7 @@ Replies:
 
 Examples:
   mm statement ax-mp set.mm
+  mm statement --comment ax-mp set.mm
   mm statement --all set.mm
 ";
 
@@ -259,7 +262,7 @@ Examples:
   mm show --essential id set.mm
 ";
 
-const NORMAL: &str = "Usage: mm normal [--file] LABEL FILES..
+const NORMAL: &str = "Usage: mm normal [--file | --known] LABEL FILES..
        mm normal --all NAME FILES..
 
 Checks the database, and writes the normal proof of the theorem with this label:
@@ -268,10 +271,15 @@ each step as a label.
 Options:
   --file   the whole file in which the theorem stands, with that proof in place
            of its own
+  --known  the proof as far as it is known, whatever the other proofs: of one
+           with a `?` the steps before it, and of one at fault those before the
+           fault; and then a `?`. It is a text for `mm try`: to be mended
   --all    the file NAME, which is one of FILES, with each complete proof so
 
 Replies:
   the proof, in lines; with --file or --all the file, nothing else  status 0
+      With --known, status 3 where the proof holds a `?`; 1 where it is at
+      fault, and 4 where it passes a limit, which `mm show --known` explains.
   ask L2 LABEL                                                      status 4
       The normal proof has more than 16,777,216 labels; with --all, that of the
       first such theorem of the file.
@@ -284,10 +292,12 @@ Replies:
   ask A3 LABEL                                                      status 3
       The proof of this theorem holds a `?`.
   no, limit or load                                                 status 1, 4
-      The database is refused: `mm help check`.
+      The database is refused: `mm help check`; with --known what stands
+      before the theorem is, whatever its proofs.
 
 Examples:
   mm normal id set.mm
+  mm normal --known id set.mm
   mm normal --all set.mm set.mm
 ";
 
@@ -351,7 +361,7 @@ Examples:
   mm small --all set.mm set.mm
 ";
 
-const MINIMIZE: &str = "Usage: mm minimize LABEL FILES..
+const MINIMIZE: &str = "Usage: mm minimize [--file] LABEL FILES..
        mm minimize --all [--duplicates] NAME FILES..
        mm minimize --list FILES..
 
@@ -369,6 +379,8 @@ Marks in the comment right before a statement are heeded. A theorem marked
 `(New usage is discouraged.)` isn't newly used, nor is one of another mathbox.
 
 Options:
+  --file         the whole file in which the theorem stands, with the shorter
+                 proof in place of its own, all else as it was
   --all          the file NAME, which is one of FILES, with each proof replaced
                  that becomes shorter, all else as it was; of a library as
                  large as set.mm this takes some ten minutes
@@ -378,9 +390,9 @@ Options:
                  replaces those of NAME whose lines in it become shorter too
 
 Replies:
-  the proof, in lines; with --all the file, nothing else            status 0
-      Where no shorter one is found: that of `mm small`; with --all, the old
-      one as it stands.
+  the proof, in lines; with --file or --all the file, nothing else  status 0
+      Where no shorter one is found: that of `mm small`; with --file or --all
+      the old one stays, as it also does where its lines have no more bytes.
   ask A1 LABEL                                                      status 1
       No statement has this label.
   ask A2 LABEL                                                      status 1
@@ -400,25 +412,45 @@ Replies:
 
 Examples:
   mm minimize id set.mm
+  mm minimize --file id set.mm
   mm minimize --list set.mm
   mm minimize --all set.mm set.mm
 ";
 
 const LEMMAS: &str = "Usage: mm lemmas --list [--most N] [--least BYTES] FILES..
+       mm lemmas [NUMBER..] --all [--most N] [--least BYTES]
+           [--prefix P] [--comment TEXT] NAME FILES..
 
 Checks the database, and lists lemmas that the library lacks: theorems of two
 steps, of which one proves a hypothesis of the other, that would stand in place
 of both and so save bytes. They come as a search finds them, about the best one
 first; what each saves is told without its own text, and after those before it.
 That they follow isn't judged: they are to choose from.
-Standard error says if the search was broken off, and on a terminal how far it
-has come. Marks and mathboxes are heeded as by `mm minimize`.
+With --all it writes a file with them instead, and with its proofs by them.
+Standard error says if the search was broken off, with --all if no lemma makes
+the file smaller, and on a terminal how far the search has come. Marks and
+mathboxes are heeded as by `mm minimize`.
+
+A file with lemmas is judged before it is written. With it the database is
+accepted; each statement that was there says what it said, and new ones are
+lemmas alone. A proof that was complete may be another, which newly uses lemmas
+alone; no theorem rests on a further axiom or unproved theorem. All other bytes
+are kept, and the file isn't longer.
 
 Options, whose numbers are decimal, from 1 to 4294967295:
-  --list          what is told: there is nothing else yet, and it must be given
-  --most N        so many lemmas at most; 100 where it isn't given
-  --least BYTES   those alone that save so many bytes or more; 1 where it isn't
-                  given
+  --list           a line for each lemma
+  --all            the file NAME, which is one of FILES, with the lemmas that
+                   make it smaller; with NUMBER.., decimal numbers before NAME,
+                   those alone on these lines of what --list with the same
+                   --most and --least prints, and those of which they are made
+  --most N         so many lemmas at most; 100 where it isn't given
+  --least BYTES    those alone that save so many bytes or more; 1 where it isn't
+                   given
+  --prefix P       what labels of lemmas begin with, beside --all, before a
+                   number: 1 to 100 letters, digits, -, _ and .; lem where it
+                   isn't given
+  --comment TEXT   what the comments of lemmas say, beside --all, without $( and
+                   $); of what each is made where it isn't given
 
 Replies, one on each line:
   SAVED USES PROOFS UPPER PLACE LOWER : HYPOTHESIS & .. => EXPRESSION
@@ -430,12 +462,18 @@ Replies, one on each line:
   N lemmas SAVED USES                                               status 0, 3
       The last line: how many there are, and their sums. Status 3 where a proof
       of the database holds a `?`.
+  with --all the file, nothing else                                 status 0, 3
+      Likewise. Where nothing pays, the file is as it was.
   no, limit or load                                                 status 1, 4
       The database is refused: `mm help check`.
+  nothing, with --all                                               status 4
+      Standard error says that the file that was made may not stand for NAME.
 
 Examples:
   mm lemmas --list set.mm
   mm lemmas --list --most 10 --least 1000 set.mm
+  mm lemmas --all set.mm set.mm
+  mm lemmas 1 4 --all --prefix mylem set.mm set.mm
 ";
 
 const SAME: &str = "Usage: mm same LABEL PROOF FILES..

@@ -46,9 +46,10 @@ Commands:
   users [--all] LABEL FILES..
                          checks the database, and lists the theorems whose proofs use the assertion
                          with this label; with --all those that rest on it
-  statement LABEL FILES..
+  statement [--comment] LABEL FILES..
                          tells what stands at this label, a statement of any kind: where it begins,
-                         its frame, and what it says, whatever the proofs
+                         its frame, and what it says, whatever the proofs; with --comment first the
+                         comment right before it
   statement --all FILES..
                          lists each axiom and each theorem in a line, whatever their proofs
   find PATTERN [--and PATTERN].. [--whole] [--shape] [--hypotheses] FILES..
@@ -64,10 +65,11 @@ Commands:
                          step stands, and its letters; with --uses which steps gave each step its
                          hypotheses; with --essential those steps alone that the last one, or with
                          --known what is on the stack, is reached from through `$e` hypotheses
-  normal [--file] LABEL FILES..
+  normal [--file | --known] LABEL FILES..
                          checks the database, and writes the normal proof of the theorem with this
                          label; with --file the whole file in which the theorem stands, with that
-                         proof in place of its own
+                         proof in place of its own; with --known what is known of an unfinished
+                         proof or of one at fault, and then a `?`: a text for try
   packed [--file] LABEL FILES..
                          likewise with the one compressed proof of the theorem with this label that
                          makes each part of two or more steps once
@@ -79,9 +81,11 @@ Commands:
   small --all NAME FILES..
                          checks the database, and writes the file NAME, which is one of FILES, with
                          each complete proof in that form
-  minimize LABEL FILES..
+  minimize [--file] LABEL FILES..
                          checks the database, and writes a shorter proof of the theorem with this
-                         label, by what the library has before it; the small one where none is found
+                         label, by what the library has before it; the small one where none is
+                         found; with --file the whole file in which the theorem stands, with the
+                         shorter proof in place of its own
   minimize --all [--duplicates] NAME FILES..
                          checks the database, and writes the file NAME, which is one of FILES, with
                          each proof replaced that becomes shorter so; with --duplicates also where
@@ -92,6 +96,11 @@ Commands:
                          checks the database, and lists lemmas that the library lacks, by which its
                          proofs would have fewer bytes; with --most so many at most, with --least
                          those alone that save so many bytes
+  lemmas [NUMBER..] --all [--most N] [--least BYTES] [--prefix P] [--comment TEXT] NAME FILES..
+                         checks the database, and writes the file NAME, which is one of FILES, with
+                         those lemmas that make it smaller, and with its proofs by them; with
+                         numbers those alone on these lines of the list; with --prefix labels begin
+                         so, in place of lem, with --comment comments say so
   same LABEL PROOF FILES..
                          checks the database, and tells whether the text in the file PROOF is the
                          same proof as that of the theorem with this label
@@ -197,7 +206,7 @@ Reply of show, on standard output:
 
 Replies of normal, packed and small, on standard output:
   the proof, in lines; with --file or --all the bytes of the file, and nothing else
-      Status 0.
+      Status 0. With --known, status 3 where it holds a `?`, 1 where it is at fault, 4 for a limit.
   ask L2 LABEL
       The normal proof has more than 16,777,216 labels. With --all it is that of the first theorem
       of the file of which this is so. Status 4.
@@ -205,7 +214,7 @@ Replies of normal, packed and small, on standard output:
       The files would then hold more than 1,073,741,824 bytes in all. Status 4.
 
 Replies of minimize, on standard output:
-  the proof, in lines; with --all the bytes of the file, and nothing else
+  the proof, in lines; with --file or --all the bytes of the file, and nothing else
       Status 0.
   With --list, one on each line: LABEL BYTES NEW-BYTES STEPS NEW-STEPS ASSERTIONS.. of a theorem
   whose proof becomes shorter, with the bytes of its small text, its steps where each part is made
@@ -219,6 +228,8 @@ Replies of lemmas, on standard output:
       of, a step by LOWER for the hypothesis of UPPER with that number: each a label, or #N for the
       lemma on line N. ` is NAME` stands before the colon where that says it already. At the end
       N lemmas SAVED USES, their sums. Status 0, or 3 where a proof of the database holds a `?`.
+  With --all the bytes of the file, and nothing else. Status 0 or 3 likewise; 4 and nothing where
+  what was made isn't known to be such a file.
 
 Replies of same, on standard output:
   same, or different
@@ -274,7 +285,8 @@ Statuses:
 Where there is no reply, standard error says why: which word is not understood, or which file cannot
 be read. Where a word may stand in the wrong place, it says what that word was taken for. After the
 reply of minimize it says by how much a proof became shorter, or how many theorems were left as they
-are, as their proofs are too long to search; after that of lemmas, if the search was broken off.
+are, as their proofs are too long to search; after that of lemmas, if no lemma makes the file
+smaller, and if the search was broken off.
 
 Examples:
   mm check set.mm
@@ -292,6 +304,7 @@ Examples:
   mm minimize id set.mm
   mm minimize --list set.mm
   mm lemmas --list set.mm
+  mm lemmas --all set.mm set.mm
   mm same id proof.txt set.mm
   mm try id proof.txt set.mm
   mm diff old.mm set.mm

@@ -3,9 +3,9 @@ use Rattle.std.proofs.Common.{◌≡◌, ◌≢◌, false, ℕ, suc, zero, ◌+�
 use Rattle.std.proofs.Common.{get_or, arith, Bool, Bor, map, nat_lt, cond, codes, Option}
 use Rattle.std.proofs.Common.{Some, None, option_map, Result, Ok, Err, IfOk, IfErr, IsSome, IfSome}
 use Rattle.std.proofs.Common.{inl, inr, refl, ap, subst, sym, ◌∙◌, true, unwrap_or}
-use Rattle.std.proofs.Common.{is_some, ◌≤◌}
+use Rattle.std.proofs.Common.{is_some, ◌≤◌, ◌⊎◌}
 use Rattle.std.proofs.lemmas.List.{take_more, map-append}
-use Rattle.std.specs.List.{position, position_or_len}
+use Rattle.std.specs.List.{AllByRecursion, position, position_or_len}
 use Rattle.std.specs.Str.{bytes_eq}
 use Rattle.mm_base.specs.MostBytes.{most_bytes}
 use Rattle.mm_base.proofs.Lists.{all_push}
@@ -29,17 +29,14 @@ use Rattle.clap.proofs.WalkLemmas.{first_value-rows, raw_values-rows}
 use Rattle.mm_verdict.specs.declared.question.Command.{Command}
 use Rattle.mm_verdict.specs.declared.question.Command.TheVariants.{File, Find, Shorter}
 use Rattle.mm_verdict.specs.declared.form.Form.{Form}
-use Rattle.mm_words.specs.Words.{AsksNamed}
-use Rattle.mm_words.specs.Words.{AsksForm, AsksRun, IsAllFault, IsGiven, name_of_form, number_among}
-use Rattle.mm_words.specs.Words.{AreMatchesOf, Asks, Commands, IsAccepted, IsFaultOfKind, IsOfKind}
-use Rattle.mm_words.specs.Words.{AreAxiomsFlags, AreMinimizeFlags, AreRefusedWords, AreShort}
-use Rattle.mm_words.specs.Words.{AsksAxioms}
-use Rattle.mm_words.specs.Words.{AsksMinimize, AsksShorterFile, AsksStatement, DoAgree}
-use Rattle.mm_words.specs.Words.{IsFilesFault, ToStandsAlone}
-use Rattle.mm_words.specs.Words.{IsNamingFault, IsWordFault, NamesFile, command_line}
-use Rattle.mm_words.specs.Words.{IsNoNumberBehind, IsNumberBehind, IsNumberFault, SaysNoNumber}
-use Rattle.mm_words.specs.Words.{SaysNumber}
-use Rattle.mm_words.specs.Words.{first_command}
+use Rattle.mm_words.specs.CommandLine.{command_line, first_command}
+use Rattle.mm_words.specs.Words.{AsksNamed, AsksForm, AsksRun, IsForAll, IsGiven, name_of_form}
+use Rattle.mm_words.specs.Words.{number_among, AreMatchesOf, Asks, Commands, IsAccepted}
+use Rattle.mm_words.specs.Words.{AreAxiomsFlags, AreMinimizeFlags, AreShort, AsksAxioms}
+use Rattle.mm_words.specs.Words.{AsksMinimize, AsksMinimized, AsksShorterFile, AsksStatement}
+use Rattle.mm_words.specs.Words.{DoAgree, ToStandsAlone, NamesFile}
+use Rattle.mm_words.specs.RefusedWords.{IsAllFault, IsFaultOfKind, IsOfKind, AreRefusedWords}
+use Rattle.mm_words.specs.RefusedWords.{IsFaultFor, IsFilesFault, IsNamingFault, IsWordFault}
 use Rattle.mm_words.specs.declared.request.Request.{Request}
 use Rattle.mm_words.specs.declared.request.Request.TheVariants.{Help, Version, Run}
 use Rattle.mm_words.specs.declared.stop.Stop.{Stop}
@@ -180,7 +177,7 @@ number_found names name number found =
 -- The file about which the words ask is one of those that they name.
 pub named_by_words : (words : List Text) (command : Command) (names : List Text)
     → AsksRun words command names → AsksNamed command names
-named_by_words words (File form number) names (rows, commands, file, all, found, same) =
+named_by_words words (File form number) names (rows, commands, file, all, for_all, found, same) =
     number_found names (unwrap_or (first_of (codes "LABEL") rows) []) number found
 named_by_words words (Shorter number duplicates) names (behind, asked, (name, is, found)) =
     number_found names name number found
@@ -205,9 +202,17 @@ module _ (rows : List Row) (form : Form) (whole given : Bool) (name : Text)
       → IfOk r (λ request. (number : ℕ) × (request ≡ Run (File form number) names) × (whole ≡ false)
       × (number_among (map (λ n. n.now) names.items) name ≡ Some number))
       → IfOk r (λ request. (words : List Text) → Commands words (name_of_form form) rows
-      → Asks words request)
-  all_asked names (Ok request) files (number, is, alone, found) = λ words commands.
-      rw is (rows, commands, rw alone at file, rw is_given at all, rw word at found, sym files)
+      → IsForAll form rows → Asks words request)
+  all_asked names (Ok request) files (number, is, alone, found) = λ words commands for_all.
+      rw is (
+        rows,
+        commands,
+        rw alone at file,
+        rw is_given at all,
+        for_all,
+        rw word at found,
+        sym files,
+      )
   all_asked names (Err stop) files h = tt
 
   -- Where there is no such request, the words are refused.
@@ -217,25 +222,38 @@ module _ (rows : List Row) (form : Form) (whole given : Bool) (name : Text)
       → IsWordFault words stop)
   all_refused names (Ok request) files h = tt
   all_refused names (Err (Usage text)) files (inl both) = λ words commands.
-      inr (inr (inl (form, rows, commands, rw is_given at all, inl (rw both at file))))
+      inr (inr (inl (inl (form, rows, commands, rw is_given at all, inl (rw both at file)))))
   all_refused names (Err (Usage text)) files (inr none) = λ words commands.
-      inr (inr (inl (form, rows, commands, rw is_given at all, inr (rw (word, files) at none))))
+      inr (inr (inl (inl (
+        form,
+        rows,
+        commands,
+        rw is_given at all,
+        inr (rw (word, files) at none),
+      ))))
   all_refused names (Err Memory) files h = λ words commands. tt
   all_refused names (Err other) files h = absurd h
 
 -- They ask for the proof of a theorem in a form, or for its file, where `--all` isn't given.
 pub form_asked : (words : List Text) (form : Form) (rows : List Row) (whole given : Bool)
     (label : Text) (names : List Text) → Commands words (name_of_form form) rows
-    → IsGiven (codes "file") rows whole → IsGiven (codes "all") rows given → given ≡ false
-    → label ≡ unwrap_or (first_of (codes "LABEL") rows) []
-    → names ≡ unwrap_or (all_of (codes "FILES") rows) []
-    → AsksForm (name_of_form form) words label whole names
-form_asked words form rows whole given label names commands file all not_given word files =
-    (rows, commands, sym word, file, rw not_given at all, sym files)
+    → IsForAll form rows → IsGiven (codes "file") rows whole → IsGiven (codes "all") rows given
+    → given ≡ false → label ≡ unwrap_or (first_of (codes "LABEL") rows) []
+    → names ≡ unwrap_or (all_of (codes "FILES") rows) [] → AsksForm form words label whole names
+form_asked words form rows whole given label names commands for_all file all not_given word files =
+    (rows, commands, sym word, file, rw not_given at all, for_all, sym files)
+
+-- `--known` is refused beside `--file` and `--all`.
+pub known_refused : (rows : List Row) (beside : Bool) → IsGiven (codes "known") rows true
+    → beside ≡ true → IsGiven (codes "file") rows beside ⊎ IsGiven (codes "all") rows beside
+    → (words : List Text) → Commands words (codes "normal") rows → AreRefusedWords words
+known_refused rows beside known too flag words commands =
+    inr (inr (inl (inr (rows, commands, known, rw too at flag))))
 
 -- ---- `axioms`
 
-is_some_map : {X Y : Type 0} (f : X → Y) (o : Option X) → is_some (option_map f o) ≡ is_some o
+-- a map keeps whether there is something
+pub is_some_map : {X Y : Type 0} (f : X → Y) (o : Option X) → is_some (option_map f o) ≡ is_some o
 is_some_map f None = refl
 is_some_map f (Some x) = refl
 
@@ -312,30 +330,57 @@ module _ (rows : List Row) (all essential : Bool) (to : Option (Bor Text)) (behi
 
 -- ---- `statement` and `find`
 
--- They ask about the statement with a label, where `--all` isn't given.
-pub statement_asked : (words : List Text) (rows : List Row) (given : Bool)
-    (found parts : List Text) (label : Text) (names : List Text)
-    → Commands words (codes "statement") rows → IsGiven (codes "all") rows given → given ≡ false
-    → found ≡ unwrap_or (all_of (codes "FILES") rows) [] → parts ≡ found
-    → (parts ≡ label ∷ names) × (names ≢ [])
-    → AsksStatement words false (label ∷ names) × (names ≢ [])
-statement_asked words rows given found parts label names commands all not_given files same
-    (is, some) =
-    ((rows, commands, rw not_given at all, sym (same ∙ files) ∙ is), some)
+module _ (rows : List Row) (all comment : Bool) (behind : List Text)
+    (has_all : IsGiven (codes "all") rows all) (has_comment : IsGiven (codes "comment") rows comment)
+    (files : behind ≡ unwrap_or (all_of (codes "FILES") rows) []) where
+  -- The words ask by `statement`, with these flags.
+  by_statement : (words : List Text) → Commands words (codes "statement") rows
+      → AsksStatement words all comment behind
+  by_statement words commands = (rows, commands, has_all, has_comment, sym files)
 
--- Where no file follows the label, the words are refused.
-pub statement_refused : (rows : List Row) (given : Bool) (found parts : List Text) (stop : Stop)
-    → IsGiven (codes "all") rows given → given ≡ false
-    → found ≡ unwrap_or (all_of (codes "FILES") rows) [] → parts ≡ found → IsFilesFault parts stop
-    → (words : List Text) → Commands words (codes "statement") rows → IsWordFault words stop
-statement_refused rows given found parts (Usage text) all not_given files same few =
-    λ words commands. inr (inr (inr (inr (inr (inr (inl (
-      found,
-      (rows, commands, rw not_given at all, sym files),
-      rw same at few,
-    )))))))
-statement_refused rows given found parts Memory all not_given files same few = λ words commands. tt
-statement_refused rows given found parts other all not_given files same few = absurd few
+  -- They ask for all assertions, where `--all` is given.
+  pub assertions_asked : all ≡ true → (words : List Text)
+      → Commands words (codes "statement") rows → AsksStatement words true comment behind
+  assertions_asked given words commands = rw given at by_statement words commands
+
+  -- Words that name no file behind the label are refused.
+  pub statement_refused : all ≡ false → (parts : List Text) (stop : Stop) → parts ≡ behind
+      → IsFilesFault parts stop → (words : List Text) → Commands words (codes "statement") rows
+      → IsWordFault words stop
+  statement_refused not_all parts (Usage text) same few words commands =
+      inr (inr (inr (inr (inr (inr (inl (
+        all,
+        comment,
+        behind,
+        by_statement words commands,
+        inr (not_all, rw same at few),
+      )))))))
+  statement_refused not_all parts Memory same few words commands = tt
+  statement_refused not_all parts other same few words commands = absurd few
+
+  -- They ask about the statement with a label, where `--all` isn't given.
+  pub statement_asked : all ≡ false → (parts : List Text) (label : Text) (names : List Text)
+      → parts ≡ behind → (parts ≡ label ∷ names) × (names ≢ []) → (words : List Text)
+      → Commands words (codes "statement") rows
+      → AsksStatement words false comment (label ∷ names) × (names ≢ [])
+  statement_asked not_all parts label names same (is, some) words commands =
+      (rw (not_all, sym same ∙ is) at by_statement words commands, some)
+
+-- Both flags are refused.
+pub comment_refused : (words names : List Text) (comment : Bool) → comment ≡ true
+    → AsksStatement words true comment names → AreRefusedWords words
+comment_refused words names comment given asked =
+    inr (inr (inr (inr (inr (inr (inl (true, comment, names, asked, inl (refl, given))))))))
+
+-- What is so of each of the words so far, and of the next, is so of one more.
+pub each_more : (P : Text → Type 0) (words : List (Bor Text)) (i : ℕ) (d : Bor Text)
+    → i < length words → AllByRecursion P (texts_in (take i words)) → P (get_or words i d).now
+    → AllByRecursion P (texts_in (take (i + 1) words))
+each_more P words i d less each own =
+    rw (
+      take_more words i d less,
+      map-append (λ (word : Bor Text). word.now) (take i words) (get_or words i d ∷ []),
+    ) (all_push P (texts_in (take i words)) (get_or words i d).now each own)
 
 -- One pattern more is short.
 pub short_more : (patterns : List (Bor Text)) (i : ℕ) (d : Bor Text) → i < length patterns
@@ -343,11 +388,7 @@ pub short_more : (patterns : List (Bor Text)) (i : ℕ) (d : Bor Text) → i < l
     → length (get_or patterns i d).now ≤ most_bytes
     → AreShort (map (λ pattern. pattern.now) (take (i + 1) patterns))
 short_more patterns i d less short own =
-    rw (
-      take_more patterns i d less,
-      map-append (λ (pattern : Bor Text). pattern.now) (take i patterns) (get_or patterns i d ∷ []),
-    ) (all_push (λ (pattern : Text). length pattern ≤ most_bytes)
-    (map (λ (pattern : Bor Text). pattern.now) (take i patterns)) (get_or patterns i d).now short own)
+    each_more (λ (pattern : Text). length pattern ≤ most_bytes) patterns i d less short own
 
 -- Where all are short, so is each.
 pub short_at : (patterns : List (Bor Text)) (i : ℕ) (d : Bor Text) → i < length patterns
@@ -357,34 +398,85 @@ short_at [] i d less short = absurd (omega arith)
 short_at (p ∷ ps) zero d less short = short.0
 short_at (p ∷ ps) (suc i) d less short = short_at ps i d (omega arith) short.1
 
+-- ---- faults
+
+-- Where the words are to blame, they are refused.
+pub blamed : (reason : Type 0) (stop : Stop) (words : List Text) → IsFaultFor reason stop
+    → (reason → AreRefusedWords words) → IsWordFault words stop
+blamed reason (Usage text) words fault refused = refused fault
+blamed reason Memory words fault refused = tt
+blamed reason other words fault refused = absurd fault
+
+-- They are also for a further reason that follows.
+pub blamed_for : (reason further : Type 0) (stop : Stop) → IsFaultFor reason stop
+    → (reason → further) → IsFaultFor further stop
+blamed_for reason further (Usage text) fault follows = follows fault
+blamed_for reason further Memory fault follows = tt
+blamed_for reason further other fault follows = absurd fault
+
 -- ---- `minimize`
 
-module _ (rows : List Row) (all list duplicates : Bool) (behind : List Text)
-    (flags : AreMinimizeFlags rows all list duplicates)
+-- With `--list` no other flag stands.
+list_alone : (whole all list duplicates : Bool) → DoAgree whole all list duplicates → list ≡ true
+    → (whole ≡ false) × (all ≡ false) × (duplicates ≡ false)
+list_alone true all list duplicates agree given = absurd cc
+list_alone false all true duplicates agree given = (refl, agree.0, agree.1)
+list_alone false all false duplicates agree given = absurd cc
+
+-- With `--all` there is no `--file`.
+all_alone : (whole all list duplicates : Bool) → DoAgree whole all list duplicates → all ≡ true
+    → whole ≡ false
+all_alone true all list duplicates agree given = absurd cc
+all_alone false all list duplicates agree given = refl
+
+-- Where neither is given, `--duplicates` isn't.
+no_duplicates : (whole all list duplicates : Bool) → DoAgree whole all list duplicates
+    → list ≡ false → all ≡ false → duplicates ≡ false
+no_duplicates true all list duplicates agree not_list not_all = agree.2
+no_duplicates false all true duplicates agree not_list not_all = agree.1
+no_duplicates false all false duplicates agree not_list not_all = elim agree [
+  | inl given ↦ absurd cc
+  | inr none ↦ none
+]
+
+module _ (rows : List Row) (whole all list duplicates : Bool) (behind : List Text)
+    (flags : AreMinimizeFlags rows whole all list duplicates)
     (files : behind ≡ unwrap_or (all_of (codes "FILES") rows) []) where
   -- The words ask by `minimize`, with these flags.
   by_minimize : (words : List Text) → Commands words (codes "minimize") rows
-      → AsksMinimize words all list duplicates behind
+      → AsksMinimize words whole all list duplicates behind
   by_minimize words commands = (rows, commands, flags, sym files)
 
   -- They ask to list the proofs that become shorter, where `--list` is given.
-  pub list_asked : DoAgree all list duplicates → list ≡ true → (words : List Text)
-      → Commands words (codes "minimize") rows → AsksMinimize words false true false behind
+  pub list_asked : DoAgree whole all list duplicates → list ≡ true → (words : List Text)
+      → Commands words (codes "minimize") rows → AsksMinimize words false false true false behind
   list_asked agree given words commands =
-      let alone : (all ≡ false) × (duplicates ≡ false) = rw given at agree in
-      rw (alone.0, given, alone.1) at by_minimize words commands
+      let alone = list_alone whole all list duplicates agree given in
+      rw (alone.0, alone.1, given, alone.2) at by_minimize words commands
 
   -- They ask for a file with shorter proofs, where `--all` is given.
-  pub file_asked : list ≡ false → all ≡ true → (parts : List Text) (number : ℕ)
-      (names : List Text) → parts ≡ behind → NamesFile parts number names → (words : List Text)
+  pub file_asked : DoAgree whole all list duplicates → list ≡ false → all ≡ true
+      → (parts : List Text) (number : ℕ) (names : List Text) → parts ≡ behind
+      → NamesFile parts number names → (words : List Text)
       → Commands words (codes "minimize") rows → AsksShorterFile words number duplicates names
-  file_asked not_list given parts number names same named words commands =
-      (behind, rw (given, not_list) at by_minimize words commands, rw same at named)
+  file_asked agree not_list given parts number names same named words commands =
+      let not_whole = all_alone whole all list duplicates agree given in
+      (behind, rw (not_whole, given, not_list) at by_minimize words commands, rw same at named)
+
+  -- They ask for the shorter proof of a theorem, or for its file, where neither is given.
+  pub minimized_asked : DoAgree whole all list duplicates → list ≡ false → all ≡ false
+      → (parts : List Text) (label : Text) (names : List Text) → parts ≡ behind
+      → parts ≡ label ∷ names → names ≢ [] → (words : List Text)
+      → Commands words (codes "minimize") rows → AsksMinimized words label whole names
+  minimized_asked agree not_list not_all parts label names same split some words commands =
+      let none = no_duplicates whole all list duplicates agree not_list not_all in
+      (rw (not_all, not_list, none, ← same, split) at by_minimize words commands, some)
 
   -- Flags that don't agree are refused.
-  pub flags_refused : ¬ (DoAgree all list duplicates) → (words : List Text)
+  pub flags_refused : ¬ (DoAgree whole all list duplicates) → (words : List Text)
       → Commands words (codes "minimize") rows → AreRefusedWords words
   flags_refused differ words commands = inr (inr (inr (inr (inr (inl (
+    whole,
     all,
     list,
     duplicates,
@@ -398,6 +490,7 @@ module _ (rows : List Row) (all list duplicates : Bool) (behind : List Text)
       → IsFilesFault parts stop → (words : List Text)
       → Commands words (codes "minimize") rows → IsWordFault words stop
   few_refused not_list parts (Usage text) same few words commands = inr (inr (inr (inr (inr (inl (
+    whole,
     all,
     list,
     duplicates,
@@ -413,6 +506,7 @@ module _ (rows : List Row) (all list duplicates : Bool) (behind : List Text)
       → IsNamingFault parts stop → (words : List Text)
       → Commands words (codes "minimize") rows → IsWordFault words stop
   name_refused given parts (Usage text) same none words commands = inr (inr (inr (inr (inr (inl (
+    whole,
     all,
     list,
     duplicates,
@@ -422,47 +516,3 @@ module _ (rows : List Row) (all list duplicates : Bool) (behind : List Text)
   ))))))
   name_refused given parts Memory same none words commands = tt
   name_refused given parts other same none words commands = absurd none
-
--- ---- `lemmas`
-
--- The usual number is asked for where the option isn't given.
-pub usual_number : (word : Option (Bor Text)) (given : Option Text) (usual : ℕ)
-    → option_map (λ w. w.now) word ≡ given → word ≡ None → IsNumberBehind given usual usual
-usual_number word given usual same none = rw (← same, none) refl
-
--- Else the one that the word behind it says is.
-pub said_number : (word : Option (Bor Text)) (given : Option Text) (said : Bor Text) (usual n : ℕ)
-    → option_map (λ w. w.now) word ≡ given → word ≡ Some said → SaysNumber said.now n
-    → IsNumberBehind given usual n
-said_number word given said usual n same some says = rw (← same, some) says
-
--- The word behind it may say none.
-pub said_none : (word : Option (Bor Text)) (given : Option Text) (said : Bor Text)
-    → option_map (λ w. w.now) word ≡ given → word ≡ Some said → SaysNoNumber said.now
-    → IsNoNumberBehind given
-said_none word given said same some none = rw (← same, some) none
-
--- Without `--list` the words are refused.
-pub unlisted_refused : (rows : List Row) (listed : Bool) → IsGiven (codes "list") rows listed
-    → listed ≡ false → (words : List Text) → Commands words (codes "lemmas") rows
-    → AreRefusedWords words
-unlisted_refused rows listed list not words commands =
-    inr (inr (inr (inr (inr (inr (inr (inr (inl (rows, commands, inl (rw not at list))))))))))
-
--- So they are where the word behind `--most` says no number.
-pub most_refused : (rows : List Row) (stop : Stop)
-    → IsNumberFault (first_of (codes "most") rows) stop → (words : List Text)
-    → Commands words (codes "lemmas") rows → IsWordFault words stop
-most_refused rows (Usage text) none words commands =
-    inr (inr (inr (inr (inr (inr (inr (inr (inl (rows, commands, inr (inl none))))))))))
-most_refused rows Memory none words commands = tt
-most_refused rows other none words commands = absurd none
-
--- And where the one behind `--least` does.
-pub least_refused : (rows : List Row) (stop : Stop)
-    → IsNumberFault (first_of (codes "least") rows) stop → (words : List Text)
-    → Commands words (codes "lemmas") rows → IsWordFault words stop
-least_refused rows (Usage text) none words commands =
-    inr (inr (inr (inr (inr (inr (inr (inr (inl (rows, commands, inr (inr none))))))))))
-least_refused rows Memory none words commands = tt
-least_refused rows other none words commands = absurd none

@@ -1,3 +1,4 @@
 pub mod AskedWords
 pub mod NamedSides
 pub mod EachPattern
+pub mod LemmaWishes

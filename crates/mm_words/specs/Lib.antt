@@ -1,2 +1,4 @@
+pub mod CommandLine
 pub mod Words
+pub mod RefusedWords
 pub mod Unread

@@ -4,7 +4,8 @@ ghost use Rattle.std.specs.Prelude.{◌≢◌, ◌↔◌, ◌∷◌, [], List, I
 ghost use Rattle.std.specs.Prelude.{is_some, codes, option_map};
 ghost use Rattle.clap.specs.Words.{Text, found_of, rows_of};
 ghost use Rattle.mm_words.specs.Words.{AreAxiomsFlags, Asks, AsksAbout, AsksAxioms, ToStandsAlone};
-ghost use Rattle.mm_words.specs.Words.{Commands, IsWordFault};
+ghost use Rattle.mm_words.specs.Words.{Commands};
+ghost use Rattle.mm_words.specs.RefusedWords.{IsWordFault};
 
 use crate::command_line::{ALL, AXIOMS_USE, ESSENTIAL, FILES, TO};
 use crate::matches::{is_given, label_and_names, optional_word, values_of};

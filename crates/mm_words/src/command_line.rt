@@ -3,16 +3,17 @@
 ghost use Rattle.std.specs.Prelude.{◌≡◌, IfOk, false};
 ghost use Rattle.clap.specs.Words.{App, Rule, app_of, rule_of, with_rule, with_subcommand};
 ghost use Rattle.clap.specs.declared.builder.command.Command.TheViews.{out-Command};
-ghost use Rattle.mm_words.specs.Words.{axioms_line, bare_line, check_line, check_lines, code_rule};
-ghost use Rattle.mm_words.specs.Words.{command_line, database_line, explain_line, faults_line};
-ghost use Rattle.mm_words.specs.Words.{diff_line, versions_line};
-ghost use Rattle.mm_words.specs.Words.{files_rule, find_line, flag_rule, form_line, forms_line};
-ghost use Rattle.mm_words.specs.Words.{help_line, label_rule, minimize_line, normal_line};
-ghost use Rattle.mm_words.specs.Words.{option_rule, options_rule, packed_line, pattern_rule};
-ghost use Rattle.mm_words.specs.Words.{profile_line, proof_rule, proofs_line, question_line};
-ghost use Rattle.mm_words.specs.Words.{rests_line, same_line, shorter_line, show_line, small_line};
-ghost use Rattle.mm_words.specs.Words.{statement_line, text_line, topic_rule, try_line, users_line};
-ghost use Rattle.mm_words.specs.Words.{lemmas_line, mend_line, version_line, why_line};
+ghost use Rattle.mm_words.specs.CommandLine.{axioms_line, bare_line, check_line, check_lines};
+ghost use Rattle.mm_words.specs.CommandLine.{code_rule, command_line, database_line, explain_line};
+ghost use Rattle.mm_words.specs.CommandLine.{faults_line, diff_line, versions_line, files_rule};
+ghost use Rattle.mm_words.specs.CommandLine.{find_line, flag_rule, form_line, forms_line};
+ghost use Rattle.mm_words.specs.CommandLine.{help_line, label_rule, minimize_line, normal_line};
+ghost use Rattle.mm_words.specs.CommandLine.{option_rule, options_rule, packed_line, pattern_rule};
+ghost use Rattle.mm_words.specs.CommandLine.{profile_line, proof_rule, proofs_line, question_line};
+ghost use Rattle.mm_words.specs.CommandLine.{rests_line, same_line, shorter_line, show_line};
+ghost use Rattle.mm_words.specs.CommandLine.{small_line, statement_line, text_line, topic_rule};
+ghost use Rattle.mm_words.specs.CommandLine.{try_line, users_line, lemmas_line, mend_line};
+ghost use Rattle.mm_words.specs.CommandLine.{version_line, why_line};
 
 use clap::{Arg, ArgAction, Command};
 use std::alloc::{AllocError, Global};
@@ -69,6 +70,8 @@ pub(crate) const FILE: &str = "file";
 
 pub(crate) const ALL: &str = "all";
 
+pub(crate) const COMMENT: &str = "comment";
+
 pub(crate) const LIST: &str = "list";
 
 pub(crate) const DUPLICATES: &str = "duplicates";
@@ -76,6 +79,8 @@ pub(crate) const DUPLICATES: &str = "duplicates";
 pub(crate) const MOST: &str = "most";
 
 pub(crate) const LEAST: &str = "least";
+
+pub(crate) const PREFIX: &str = "prefix";
 
 pub(crate) const KNOWN: &str = "known";
 
@@ -310,7 +315,7 @@ fn axioms_command<'a>(alloc: Global) -> Result<Command<'a>, AllocError>
 }
 
 /// How `statement` is used.
-pub(crate) const STATEMENT_USE: &str = "mm statement LABEL FILES..
+pub(crate) const STATEMENT_USE: &str = "mm statement [--comment] LABEL FILES..
        mm statement --all FILES..";
 
 /// The command `statement`, for `clap`.
@@ -322,6 +327,7 @@ fn statement_command<'a>(alloc: Global) -> Result<Command<'a>, AllocError>
         .about("tells what stands at a label, and its frame, or each assertion in a line")
         .override_usage(STATEMENT_USE)
         .arg(flag_argument(alloc, ALL))?
+        .arg(flag_argument(alloc, COMMENT))?
         .arg(files_argument(alloc))
 }
 
@@ -382,12 +388,13 @@ fn normal_command<'a>(alloc: Global) -> Result<Command<'a>, AllocError>
     ensures shape { IfOk result (λ command. app_of command ≡ normal_line) }
     ensures local { IfOk result (λ command. (out-Command command).has_globals ≡ false) }
 {
-    form_command(
+    let command = form_command(
         alloc,
         NORMAL,
         "writes the normal proof of a theorem",
-        "mm normal [--file] LABEL FILES..\n       mm normal --all NAME FILES..",
-    )
+        "mm normal [--file | --known] LABEL FILES..\n       mm normal --all NAME FILES..",
+    );
+    with_argument(command, flag_argument(alloc, KNOWN))
 }
 
 /// The command `packed`, for `clap`.
@@ -417,7 +424,7 @@ fn small_command<'a>(alloc: Global) -> Result<Command<'a>, AllocError>
 }
 
 /// How `minimize` is used.
-pub(crate) const MINIMIZE_USE: &str = "mm minimize LABEL FILES..
+pub(crate) const MINIMIZE_USE: &str = "mm minimize [--file] LABEL FILES..
        mm minimize --all [--duplicates] NAME FILES..
        mm minimize --list FILES..";
 
@@ -429,14 +436,17 @@ fn minimize_command<'a>(alloc: Global) -> Result<Command<'a>, AllocError>
     let command = Command::new(alloc, MINIMIZE)
         .about("writes a shorter proof of a theorem, by what the library has")
         .override_usage(MINIMIZE_USE);
-    let command = with_argument(Ok(command), flag_argument(alloc, ALL));
+    let command = with_argument(Ok(command), flag_argument(alloc, FILE));
+    let command = with_argument(command, flag_argument(alloc, ALL));
     let command = with_argument(command, flag_argument(alloc, LIST));
     let command = with_argument(command, flag_argument(alloc, DUPLICATES));
     with_argument(command, files_argument(alloc))
 }
 
 /// How `lemmas` is used.
-pub(crate) const LEMMAS_USE: &str = "mm lemmas --list [--most N] [--least BYTES] FILES..";
+pub(crate) const LEMMAS_USE: &str = "mm lemmas --list [--most N] [--least BYTES] FILES..
+       mm lemmas [NUMBER..] --all [--most N] [--least BYTES]
+           [--prefix P] [--comment TEXT] NAME FILES..";
 
 /// The command `lemmas`, for `clap`.
 fn lemmas_command<'a>(alloc: Global) -> Result<Command<'a>, AllocError>
@@ -444,11 +454,14 @@ fn lemmas_command<'a>(alloc: Global) -> Result<Command<'a>, AllocError>
     ensures local { IfOk result (λ command. (out-Command command).has_globals ≡ false) }
 {
     let command = Command::new(alloc, LEMMAS)
-        .about("lists the lemmas that a library lacks, by which its proofs would be smaller")
+        .about("lists lemmas that a library lacks, or writes a file with them and smaller proofs")
         .override_usage(LEMMAS_USE);
     let command = with_argument(Ok(command), flag_argument(alloc, LIST));
+    let command = with_argument(command, flag_argument(alloc, ALL));
     let command = with_argument(command, option_argument(alloc, MOST));
     let command = with_argument(command, option_argument(alloc, LEAST));
+    let command = with_argument(command, option_argument(alloc, PREFIX));
+    let command = with_argument(command, option_argument(alloc, COMMENT));
     with_argument(command, files_argument(alloc))
 }
 

@@ -3,7 +3,8 @@
 ghost use Rattle.std.specs.Prelude.{◌≡◌, ◌≢◌, [], List, map, IfOk, IfErr, IfSome, IfNone, codes};
 ghost use Rattle.std.specs.Prelude.{◌⊎◌, drop};
 ghost use Rattle.clap.specs.Words.{Row, Text};
-ghost use Rattle.mm_words.specs.Words.{Asks, AreSides, Commands, IsWordFault};
+ghost use Rattle.mm_words.specs.Words.{Asks, AreSides, Commands};
+ghost use Rattle.mm_words.specs.RefusedWords.{IsWordFault};
 
 use crate::command_line::DIFF_USE;
 use crate::matches::number_of;

@@ -6,11 +6,11 @@ ghost use Rattle.std.specs.List.{AllByRecursion};
 ghost use Rattle.clap.specs.Words.{Text, all_of, first_of, found_of, rows_of};
 ghost use Rattle.mm_base.specs.MostBytes.{most_bytes};
 ghost use Rattle.mm_code.specs.Layout.{texts};
-ghost use Rattle.mm_words.specs.Words.{AreFit, AreShort, Asks, AsksStatement, Commands};
-ghost use Rattle.mm_words.specs.Words.{IsGapless, IsWordFault};
+ghost use Rattle.mm_words.specs.Words.{AreFit, AreShort, Asks, AsksStatement, Commands, IsGapless};
+ghost use Rattle.mm_words.specs.RefusedWords.{IsWordFault};
 
 use crate::command_line::{
-    ALL, AND, FILES, FIND_USE, HYPOTHESES, PATTERN, SHAPE, STATEMENT_USE, WHOLE,
+    ALL, AND, COMMENT, FILES, FIND_USE, HYPOTHESES, PATTERN, SHAPE, STATEMENT_USE, WHOLE,
 };
 use crate::matches::{asked_word, is_given, label_and_names, values_of};
 use crate::request::{AskedPatterns, Request};
@@ -23,20 +23,32 @@ use std::alloc::{AllocError, Global};
 /// What stands in a pattern for any number of symbols.
 const GAP: &[u8] = b"$*";
 
-/// The request to list all assertions in the files with these names.
-fn assertions_request(names: Vec<&str>) -> Request<'_>
-    ensures { (words : List Text) → AsksStatement words true (map (λ name. name.now) names.entry.items)
-        → Asks words result }
+/// The request to list all assertions in the files with these names, with which no comments can be
+/// asked for.
+fn assertions_request<'a>(
+    alloc: Global,
+    names: Vec<&'a str>,
+    comment: bool,
+) -> Result<Request<'a>, Stop<'a>>
+    ensures request { IfOk result (λ request. (words : List Text)
+        → AsksStatement words true comment (map (λ name. name.now) names.entry.items)
+        → Asks words request) }
+    ensures fault { IfErr result (λ stop. (words : List Text)
+        → AsksStatement words true comment (map (λ name. name.now) names.entry.items)
+        → IsWordFault words stop) }
 {
-    Request::Run {
-        command: mm_verdict::Command::Find {
-            patterns: &[],
-            whole: true,
-            shape: false,
-            hypotheses: false,
-        },
-        names,
+    if comment {
+        return Err(Stop::Usage(format!(in alloc;
+            "mm: --comment and --all exclude each other\nUsage: {STATEMENT_USE}\n"
+        )?));
     }
+    let command = mm_verdict::Command::Find {
+        patterns: &[],
+        whole: true,
+        shape: false,
+        hypotheses: false,
+    };
+    Ok(Request::Run { command, names })
 }
 
 /// What the matches of the command `statement` ask for: with `--all` each word names a file, else
@@ -53,11 +65,13 @@ pub(crate) fn statement_request<'a>(
         → IsWordFault words stop) }
 {
     let words = values_of(alloc, matches, FILES)?;
+    let comment = is_given(matches, COMMENT);
     if is_given(matches, ALL) {
-        return Ok(assertions_request(words));
+        return assertions_request(alloc, words, comment);
     }
     let (label, names) = label_and_names(alloc, &words, STATEMENT_USE)?;
-    let command = mm_verdict::Command::Statement(label.as_bytes());
+    let label = label.as_bytes();
+    let command = mm_verdict::Command::Statement { label, comment };
     Ok(Request::Run { command, names })
 }
 

@@ -1,19 +1,25 @@
 //! What the words of `mm normal`, `mm packed` and `mm small` ask for.
 
-ghost use Rattle.std.specs.Prelude.{◌≡◌, List, map, IfOk, IfErr, false, ℕ};
+ghost use Rattle.std.specs.Prelude.{◌≡◌, List, map, IfOk, IfErr, codes, false, true, ℕ};
 ghost use Rattle.clap.specs.Words.{Text, found_of, rows_of};
 ghost use Rattle.mm_verdict.specs.declared.question.Command.TheVariants.{File};
-ghost use Rattle.mm_words.specs.Words.{Asks, Commands, IsAllFault, IsWordFault, name_of_form};
+ghost use Rattle.mm_words.specs.Words.{Asks, Commands, IsForAll, IsGiven, name_of_form};
 ghost use Rattle.mm_words.specs.Words.{number_among};
+ghost use Rattle.mm_words.specs.RefusedWords.{IsAllFault, IsWordFault};
 ghost use Rattle.mm_words.specs.declared.request.Request.TheVariants.{Run};
 
-use crate::command_line::{ALL, FILE, FILES, LABEL, NORMAL, PACKED, SMALL};
+use crate::command_line::{ALL, FILE, FILES, KNOWN, LABEL, NORMAL, PACKED, SMALL};
 use crate::matches::{asked_word, is_given, number_of, values_of};
 use crate::request::Request;
 use crate::stop::Stop;
 use clap::ArgMatches;
-use mm_verdict::{Form, Question};
+use mm_verdict::{Form, LoneQuestion, Question};
 use std::alloc::Global;
+
+/// What is said where flags of `normal` are given that exclude each other.
+const NORMAL_FLAGS: &str = "mm: --known excludes --file and --all
+Usage: mm normal --known LABEL FILES..
+";
 
 /// The name of the command that asks for proofs in a form.
 fn form_name(form: Form) -> &'static str
@@ -64,7 +70,7 @@ pub(crate) fn proof_request<'a>(
 ) -> Result<Request<'a>, Stop<'a>>
     ensures request { IfOk result (λ request. (words : List Text)
         → Commands words (name_of_form form) (rows_of (found_of matches.now))
-        → Asks words request) }
+        → IsForAll form (rows_of (found_of matches.now)) → Asks words request) }
     ensures fault { IfErr result (λ stop. (words : List Text)
         → Commands words (name_of_form form) (rows_of (found_of matches.now))
         → IsWordFault words stop) }
@@ -81,4 +87,45 @@ pub(crate) fn proof_request<'a>(
         question: Question::Form { form, whole },
     };
     Ok(Request::Run { command, names })
+}
+
+/// What the matches of the command `normal` ask for, where `--known` is given: for a proof as far as
+/// it is known.
+fn known_request<'a>(alloc: Global, matches: &ArgMatches<'a>) -> Result<Request<'a>, Stop<'a>>
+    requires { IsGiven (codes "known") (rows_of (found_of matches.now)) true }
+    ensures request { IfOk result (λ request. (words : List Text)
+        → Commands words (codes "normal") (rows_of (found_of matches.now))
+        → Asks words request) }
+    ensures fault { IfErr result (λ stop. (words : List Text)
+        → Commands words (codes "normal") (rows_of (found_of matches.now))
+        → IsWordFault words stop) }
+{
+    if is_given(matches, FILE) || is_given(matches, ALL) {
+        return Err(Stop::Usage(format!(in alloc; "{NORMAL_FLAGS}")?));
+    }
+    let label = asked_word(matches, LABEL).as_bytes();
+    let names = values_of(alloc, matches, FILES)?;
+    let command = mm_verdict::Command::Lone {
+        label,
+        question: LoneQuestion::KnownNormal,
+    };
+    Ok(Request::Run { command, names })
+}
+
+/// What the matches of the command `normal` ask for.
+pub(crate) fn normal_request<'a>(
+    alloc: Global,
+    matches: &ArgMatches<'a>,
+) -> Result<Request<'a>, Stop<'a>>
+    ensures request { IfOk result (λ request. (words : List Text)
+        → Commands words (codes "normal") (rows_of (found_of matches.now))
+        → Asks words request) }
+    ensures fault { IfErr result (λ stop. (words : List Text)
+        → Commands words (codes "normal") (rows_of (found_of matches.now))
+        → IsWordFault words stop) }
+{
+    if is_given(matches, KNOWN) {
+        return known_request(alloc, matches);
+    }
+    proof_request(alloc, matches, Form::Normal)
 }

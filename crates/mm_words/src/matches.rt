@@ -4,7 +4,8 @@ ghost use Rattle.std.specs.Prelude.{◌≡◌, ◌≢◌, ◌∷◌, [], map, If
 ghost use Rattle.std.specs.Prelude.{position, unwrap_or};
 ghost use Rattle.std.specs.Str.{bytes_eq};
 ghost use Rattle.clap.specs.Words.{all_of, first_of, found_of, rows_of};
-ghost use Rattle.mm_words.specs.Words.{IsFilesFault, IsGiven, is_strict};
+ghost use Rattle.mm_words.specs.Words.{IsGiven, NamesFile, is_strict};
+ghost use Rattle.mm_words.specs.RefusedWords.{IsFilesFault, IsNamingFault};
 
 use crate::command_line::FILES;
 use crate::stop::Stop;
@@ -100,5 +101,25 @@ pub(crate) fn label_and_names<'a>(
     match words {
         [label, names @ ..] if !names.is_empty() => Ok((*label, names.to_vec(alloc)?)),
         _ => Err(Stop::Usage(lack_of(alloc, "<FILES>...", usage)?)),
+    }
+}
+
+/// The number of the file that the first word names, among those that the others name, and the names
+/// of these, where the command is used so.
+pub(crate) fn named_file<'a>(
+    alloc: Global,
+    words: &[&'a str],
+    usage: &str,
+) -> Result<(usize, Vec<&'a str>), Stop<'a>>
+    ensures named { IfOk result (λ named. NamesFile (map (λ word. word.now) words.now) named.0
+        (map (λ name. name.now) named.1.items)) }
+    ensures fault { IfErr result (IsNamingFault (map (λ word. word.now) words.now)) }
+{
+    let (name, names) = label_and_names(alloc, words, usage)?;
+    match number_of(&names, name) {
+        Some(file) => Ok((file, names)),
+        None => Err(Stop::Usage(format!(in alloc;
+            "mm: {name} is none of the files\nUsage: {usage}\n"
+        )?)),
     }
 }

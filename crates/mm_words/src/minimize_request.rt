@@ -1,16 +1,16 @@
 //! What the words of `mm minimize` ask for.
 
-ghost use Rattle.std.specs.Prelude.{◌≡◌, ◌↔◌, List, map, IfOk, IfErr, IsTrue, codes};
+ghost use Rattle.std.specs.Prelude.{◌≡◌, ◌↔◌, List, IfOk, IfErr, IsTrue, codes};
 ghost use Rattle.clap.specs.Words.{Text, found_of, rows_of};
 ghost use Rattle.mm_verdict.specs.declared.question.Command.TheVariants.{Whole};
 ghost use Rattle.mm_verdict.specs.declared.question.WholeQuestion.TheVariants.{Shorter};
-ghost use Rattle.mm_words.specs.Words.{Asks, AreMinimizeFlags, Commands, DoAgree, IsWordFault};
-ghost use Rattle.mm_words.specs.Words.{IsNamingFault, NamesFile};
+ghost use Rattle.mm_words.specs.Words.{Asks, AreMinimizeFlags, Commands, DoAgree};
+ghost use Rattle.mm_words.specs.RefusedWords.{IsWordFault};
 ghost use Rattle.mm_step.specs.declared.profile.Profile.TheVariants.{Lenient};
 ghost use Rattle.mm_words.specs.declared.request.Request.TheVariants.{Run};
 
-use crate::command_line::{ALL, DUPLICATES, FILES, LIST, MINIMIZE_USE};
-use crate::matches::{is_given, label_and_names, number_of, values_of};
+use crate::command_line::{ALL, DUPLICATES, FILE, FILES, LIST, MINIMIZE_USE};
+use crate::matches::{is_given, label_and_names, named_file, values_of};
 use crate::request::Request;
 use crate::stop::Stop;
 use clap::ArgMatches;
@@ -21,6 +21,7 @@ use std::alloc::Global;
 /// Which flags of `minimize` are given.
 #[derive(Clone, Copy)]
 struct MinimizeFlags {
+    whole: bool,
     all: bool,
     list: bool,
     duplicates: bool,
@@ -28,40 +29,26 @@ struct MinimizeFlags {
 
 /// Those in the matches of the command.
 fn minimize_flags(matches: &ArgMatches) -> MinimizeFlags
-    ensures { AreMinimizeFlags (rows_of (found_of matches.now)) result.all result.list
+    ensures { AreMinimizeFlags (rows_of (found_of matches.now)) result.whole result.all result.list
         result.duplicates }
 {
     MinimizeFlags {
+        whole: is_given(matches, FILE),
         all: is_given(matches, ALL),
         list: is_given(matches, LIST),
         duplicates: is_given(matches, DUPLICATES),
     }
 }
 
-/// Whether flags of `minimize` stand beside each other: `--list` alone, and `--duplicates` beside
-/// `--all`.
+/// Whether flags of `minimize` stand beside each other: `--file` and `--list` each alone, and
+/// `--duplicates` beside `--all`.
 fn do_agree(flags: MinimizeFlags) -> bool
-    ensures { IsTrue result ↔ DoAgree flags.all flags.list flags.duplicates }
+    ensures { IsTrue result ↔ DoAgree flags.whole flags.all flags.list flags.duplicates }
 {
-    match flags.list {
-        true => !flags.all && !flags.duplicates,
-        false => flags.all || !flags.duplicates,
-    }
-}
-
-/// The number of the file that the first word names, among those that the others name, and the names
-/// of these.
-fn named_file<'a>(alloc: Global, words: &[&'a str]) -> Result<(usize, Vec<&'a str>), Stop<'a>>
-    ensures named { IfOk result (λ named. NamesFile (map (λ word. word.now) words.now) named.0
-        (map (λ name. name.now) named.1.items)) }
-    ensures fault { IfErr result (IsNamingFault (map (λ word. word.now) words.now)) }
-{
-    let (name, names) = label_and_names(alloc, words, MINIMIZE_USE)?;
-    match number_of(&names, name) {
-        Some(file) => Ok((file, names)),
-        None => Err(Stop::Usage(format!(in alloc;
-            "mm: {name} is none of the files\nUsage: {MINIMIZE_USE}\n"
-        )?)),
+    match (flags.whole, flags.list) {
+        (true, list) => !flags.all && !list && !flags.duplicates,
+        (false, true) => !flags.all && !flags.duplicates,
+        (false, false) => flags.all || !flags.duplicates,
     }
 }
 
@@ -94,14 +81,16 @@ pub(crate) fn minimize_request<'a>(
     let flags = minimize_flags(matches);
     if !do_agree(flags) {
         return Err(Stop::Usage(format!(in alloc;
-            "mm: --list stands alone, and --duplicates beside --all\nUsage: {MINIMIZE_USE}\n"
+            "mm: --file and --list stand alone, and --duplicates beside --all
+Usage: {MINIMIZE_USE}
+"
         )?));
     }
     if flags.list {
         return Ok(listed_request(words));
     }
     if flags.all {
-        let (file, names) = named_file(alloc, &words)?;
+        let (file, names) = named_file(alloc, &words, MINIMIZE_USE)?;
         let command = mm_verdict::Command::Shorter {
             file,
             duplicates: flags.duplicates,
@@ -111,7 +100,7 @@ pub(crate) fn minimize_request<'a>(
     let (label, names) = label_and_names(alloc, &words, MINIMIZE_USE)?;
     let command = mm_verdict::Command::About {
         label: label.as_bytes(),
-        question: Question::Minimized,
+        question: Question::Minimized { whole: flags.whole },
     };
     Ok(Request::Run { command, names })
 }

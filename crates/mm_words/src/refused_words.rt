@@ -2,7 +2,8 @@
 
 ghost use Rattle.std.specs.Prelude.{◌≡◌, map, IfOk, IfErr, option_map};
 ghost use Rattle.clap.specs.Words.{app_of, kind_of};
-ghost use Rattle.mm_words.specs.Words.{IsFaultOfKind, IsOfKind, command_line, first_command};
+ghost use Rattle.mm_words.specs.CommandLine.{command_line, first_command};
+ghost use Rattle.mm_words.specs.RefusedWords.{IsFaultOfKind, IsOfKind};
 
 use crate::command_line::{AXIOMS, FILES, LABEL, MINIMIZE, PROOF};
 use crate::request::Request;

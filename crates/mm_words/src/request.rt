@@ -38,6 +38,22 @@ pub struct AskedPatterns<'a> {
     pub names: Vec<&'a str>,
 }
 
+/// A wish for the file with this number among `names`, with lemmas that the database in the files
+/// with these names lacks: those on the lines with the numbers `chosen` of a list of so many lemmas
+/// at most, `most`, of which each saves so many bytes or more, `least`; or, where no line is chosen,
+/// as many of them as make the file smaller. Their labels begin with `prefix`, and the comment before
+/// each says `comment`, where that is given.
+#[derive(Drop)]
+pub struct AskedLemmas<'a> {
+    pub file: usize,
+    pub most: usize,
+    pub least: usize,
+    pub chosen: Vec<usize>,
+    pub prefix: &'a str,
+    pub comment: Option<&'a str>,
+    pub names: Vec<&'a str>,
+}
+
 /// A question what changed from the database in the files with the names `old` to the one in those
 /// with the names `new`.
 #[derive(Clone, Copy)]
@@ -64,6 +80,8 @@ pub enum Request<'a> {
     Find(AskedPatterns<'a>),
     /// To read a proof's text, and to say what it is to a theorem.
     Text(AskedText<'a>),
+    /// To write a file with lemmas that the database lacks, and with its proofs by them.
+    LemmaFile(AskedLemmas<'a>),
     /// To tell which changes mend a proof.
     Mend(AskedMend<'a>),
     /// To tell what changed between two versions of a database.

@@ -2,8 +2,8 @@
 
 ghost use Rattle.std.specs.Prelude.{List, Bool, IfOk, IfErr, IfSome, IfNone, codes};
 ghost use Rattle.clap.specs.Words.{Text, found_of, rows_of};
-ghost use Rattle.mm_words.specs.Words.{AreSeveral, Asks, AsksRun, AsksShow, AsksTold, Commands};
-ghost use Rattle.mm_words.specs.Words.{IsWordFault};
+ghost use Rattle.mm_words.specs.Words.{Asks, AsksRun, AsksShow, AsksTold, Commands};
+ghost use Rattle.mm_words.specs.RefusedWords.{AreSeveral, IsWordFault};
 
 use crate::command_line::{ESSENTIAL, FILES, KNOWN, LABEL, LETTERS, USES};
 use crate::matches::{asked_word, is_given, values_of};

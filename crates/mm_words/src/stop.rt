@@ -5,7 +5,7 @@ ghost use Rattle.mm_words.specs.Unread.{unread_stop};
 ghost use Rattle.mm_words.specs.declared.stop.Stop.TheVariants.{Memory};
 
 use crate::arguments::ArgumentFault;
-use std::alloc::AllocError;
+use std::alloc::{AllocError, AllocFailed};
 use thiserror::Error;
 
 /// Why the program ends without an answer, which is reported on standard error: the message, after
@@ -37,6 +37,14 @@ impl<'a> From<AllocError> for Stop<'a> {
     ghost from_gives = { λ _ e. e ≡ Memory };
 
     fn from(_e: AllocError) -> Stop<'a> {
+        Stop::Memory
+    }
+}
+
+impl<'a, T: Drop> From<AllocFailed<T>> for Stop<'a> {
+    ghost from_gives = { λ _ e. e ≡ Memory };
+
+    fn from(_e: AllocFailed<T>) -> Stop<'a> {
         Stop::Memory
     }
 }

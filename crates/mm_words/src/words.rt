@@ -2,9 +2,10 @@
 
 ghost use Rattle.std.specs.Prelude.{◌≡◌, List, map, IfOk, IfErr, IfSome, IfNone, codes};
 ghost use Rattle.clap.specs.Words.{Row, Text, app_of, found_of, rows_of};
+ghost use Rattle.mm_words.specs.CommandLine.{command_line};
 ghost use Rattle.mm_words.specs.Words.{AreMatchesOf, Asks, AsksUnder, AsksWhole, Commands};
-ghost use Rattle.mm_words.specs.Words.{IsWordFault, NamesNoForm, NamesNoText, command_line};
 ghost use Rattle.mm_words.specs.Words.{name_of_text};
+ghost use Rattle.mm_words.specs.RefusedWords.{IsWordFault, NamesNoForm, NamesNoText};
 ghost use Rattle.mm_step.specs.declared.profile.Profile.{Profile};
 
 use crate::axioms_request::axioms_request;
@@ -15,7 +16,7 @@ use crate::command_line::{
 };
 use crate::diff_request::diff_request;
 use crate::find_request::{find_request, statement_request};
-use crate::form_request::proof_request;
+use crate::form_request::{normal_request, proof_request};
 use crate::lemmas_request::lemmas_request;
 use crate::matches::{asked_profile, asked_word, is_given, values_of};
 use crate::minimize_request::minimize_request;
@@ -124,7 +125,7 @@ fn form_request<'a>(
         → AreMatchesOf words matches.now → IsWordFault words stop) }
 {
     if let Some(normal) = matches.subcommand_matches(NORMAL) {
-        return Ok(Some(proof_request(alloc, normal, Form::Normal)?));
+        return Ok(Some(normal_request(alloc, normal)?));
     }
     if let Some(packed) = matches.subcommand_matches(PACKED) {
         return Ok(Some(proof_request(alloc, packed, Form::Packed)?));

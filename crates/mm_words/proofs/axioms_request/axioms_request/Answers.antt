@@ -3,7 +3,8 @@
 use Rattle.std.proofs.Common.{IsTrue, List, ap, map, refl, rules, codes}
 use Rattle.clap.specs.Words.{Row, Text, found_of, rows_of}
 use Rattle.mm_base.proofs.Lists.{error_keeps}
-use Rattle.mm_words.specs.Words.{Commands, IsWordFault}
+use Rattle.mm_words.specs.Words.{Commands}
+use Rattle.mm_words.specs.RefusedWords.{IsWordFault}
 use Rattle.mm_words.proofs.AskedWords.{all_axioms_asked, axioms_refused, label_asked}
 use Rattle.mm_words.proofs.AskedWords.{label_refused}
 use Rattle.mm_words.proofs.axioms_request.axioms_request.Goals as goal

@@ -19,9 +19,9 @@ returns-then-is_given-clause-fault c =
     c.all_request.result c.in_ok-names.ensures c.all_request.ensures.fault
 
 pub returns-clause-request : goal.returns-clause-request
-returns-clause-request c = λ words commands.
+returns-clause-request c = λ words commands for_all.
     let rows : List Row = rows_of (found_of c.args.matches.now) in
     let label = c.as_bytes-label.ensures.value ∙ c.asked_word-word.ensures in
     form_asked words c.args.form rows c.is_given-whole.result c.is_given.result c.as_bytes-label.result.now
-    (map (λ n. n.now) c.in_ok-names.names.items) commands c.is_given-whole.ensures c.is_given.ensures
-    c.if-is_given.false label c.in_ok-names.ensures
+    (map (λ n. n.now) c.in_ok-names.names.items) commands for_all c.is_given-whole.ensures
+    c.is_given.ensures c.if-is_given.false label c.in_ok-names.ensures

@@ -1,18 +1,30 @@
 -- Why there is no request is passed on.
 use Rattle.std.proofs.Common.{List, refl}
 use Rattle.clap.specs.Words.{Text}
-use Rattle.mm_words.specs.Words.{AreMatchesOf, IsWordFault}
+use Rattle.mm_words.specs.Words.{AreMatchesOf}
+use Rattle.mm_words.specs.RefusedWords.{IsWordFault}
 use Rattle.mm_words.proofs.AskedWords.{commands_met, none_there, not_commanded}
 use Rattle.mm_base.proofs.Lists.{error_keeps}
 use Rattle.mm_words.proofs.words.form_request.Goals as goal
 
-pub returns-in_err-proof_request-clause-fault : goal.returns-in_err-proof_request-clause-fault
-returns-in_err-proof_request-clause-fault c =
-    error_keeps c.from_residual.result c.in_err-proof_request.field-0.0
+pub returns-in_err-normal_request-clause-fault : goal.returns-in_err-normal_request-clause-fault
+returns-in_err-normal_request-clause-fault c =
+    error_keeps c.from_residual.result c.in_err-normal_request.field-0.0
     (λ stop. (words : List Text) → AreMatchesOf words c.args.matches.now → IsWordFault words stop)
-    c.from_residual.ensures.1 (λ words met. c.in_err-proof_request.ensures.fault words
+    c.from_residual.ensures.1 (λ words met. c.in_err-normal_request.ensures.fault words
     (commands_met words c.args.matches.now _ _ met (c.in-Some.ensures.found.0 refl)
     c.in-Some.ensures.rows))
+
+pub returns-in_err-proof_request-clause-fault :
+    goal.returns-in_err-proof_request-clause-fault
+returns-in_err-proof_request-clause-fault c =
+    error_keeps c.from_residual-in_err-proof_request.result c.in_err-proof_request.field-0.0
+    (λ stop. (words : List Text) → AreMatchesOf words c.args.matches.now → IsWordFault words stop)
+    c.from_residual-in_err-proof_request.ensures.1
+    (λ words met. c.in_err-proof_request.ensures.fault words
+    (commands_met words c.args.matches.now _ _ met
+    (c.in-Some-subcommand_matches.ensures.found.0 refl)
+    c.in-Some-subcommand_matches.ensures.rows))
 
 pub returns-in_err-proof_request-2-clause-fault :
     goal.returns-in_err-proof_request-2-clause-fault
@@ -21,17 +33,6 @@ returns-in_err-proof_request-2-clause-fault c =
     (λ stop. (words : List Text) → AreMatchesOf words c.args.matches.now → IsWordFault words stop)
     c.from_residual-in_err-proof_request-2.ensures.1
     (λ words met. c.in_err-proof_request-2.ensures.fault words
-    (commands_met words c.args.matches.now _ _ met
-    (c.in-Some-subcommand_matches.ensures.found.0 refl)
-    c.in-Some-subcommand_matches.ensures.rows))
-
-pub returns-in_err-proof_request-3-clause-fault :
-    goal.returns-in_err-proof_request-3-clause-fault
-returns-in_err-proof_request-3-clause-fault c =
-    error_keeps c.from_residual-in_err-proof_request-3.result c.in_err-proof_request-3.field-0.0
-    (λ stop. (words : List Text) → AreMatchesOf words c.args.matches.now → IsWordFault words stop)
-    c.from_residual-in_err-proof_request-3.ensures.1
-    (λ words met. c.in_err-proof_request-3.ensures.fault words
     (commands_met words c.args.matches.now _ _ met
     (c.in-Some-subcommand_matches-2.ensures.found.0 refl)
     c.in-Some-subcommand_matches-2.ensures.rows))
@@ -49,23 +50,23 @@ returns-in_err-minimize_request-clause-fault c =
 
 pub returns-in-Some-clause-request : goal.returns-in-Some-clause-request
 returns-in-Some-clause-request c = λ words met.
-    c.in_ok-proof_request.ensures.request words (commands_met words c.args.matches.now _ _ met
+    c.in_ok-normal_request.ensures.request words (commands_met words c.args.matches.now _ _ met
     (c.in-Some.ensures.found.0 refl)
     c.in-Some.ensures.rows)
 
 pub returns-in-Some-subcommand_matches-clause-request :
     goal.returns-in-Some-subcommand_matches-clause-request
 returns-in-Some-subcommand_matches-clause-request c = λ words met.
-    c.in_ok-proof_request-2.ensures.request words (commands_met words c.args.matches.now _ _ met
+    c.in_ok-proof_request.ensures.request words (commands_met words c.args.matches.now _ _ met
     (c.in-Some-subcommand_matches.ensures.found.0 refl)
-    c.in-Some-subcommand_matches.ensures.rows)
+    c.in-Some-subcommand_matches.ensures.rows) tt
 
 pub returns-in-Some-subcommand_matches-2-clause-request :
     goal.returns-in-Some-subcommand_matches-2-clause-request
 returns-in-Some-subcommand_matches-2-clause-request c = λ words met.
-    c.in_ok-proof_request-3.ensures.request words (commands_met words c.args.matches.now _ _ met
+    c.in_ok-proof_request-2.ensures.request words (commands_met words c.args.matches.now _ _ met
     (c.in-Some-subcommand_matches-2.ensures.found.0 refl)
-    c.in-Some-subcommand_matches-2.ensures.rows)
+    c.in-Some-subcommand_matches-2.ensures.rows) tt
 
 pub returns-in-Some-subcommand_matches-3-clause-request :
     goal.returns-in-Some-subcommand_matches-3-clause-request

@@ -1,7 +1,7 @@
 -- The file is the first of the names that is its own, or none is.
 use Rattle.std.proofs.Common.{None, Some, inr}
 use Rattle.mm_words.proofs.AskedWords.{number_named}
-use Rattle.mm_words.proofs.minimize_request.named_file.Goals as goal
+use Rattle.mm_words.proofs.matches.named_file.Goals as goal
 
 pub returns-in-Some-clause-named : goal.returns-in-Some-clause-named
 returns-in-Some-clause-named c = (
