@@ -1,29 +1,16 @@
 //! The program `mm`: verifies databases of the Metamath language.
+//! It hands its words, its files and its devices to `start` of `mm_serve`, which answers, and a seed
+//! of the system's random source. Its tests run the program over files in memory.
 #![tactic(auto)]
-
-mod answer;
-mod files;
-mod folder;
-mod hint;
-mod label_note;
-mod mends;
-mod notes;
-mod progress_line;
-mod say;
-mod search_note;
-mod serve;
-mod unread;
-mod versions;
 
 ghost use Rattle.std.specs.Int.{from_le_bytes, w64};
 ghost use Rattle.std.specs.Prelude.{◌≡◌, OnErr, OnOk};
 ghost use Rattle.mm_base.specs.Seed.{known_number, seed_of};
 
-use folder::{Host, Resources};
 use mm_base::Seed;
 use mm_help::{program_pages, program_texts, rule_chapters};
+use mm_serve::{Host, ProgressLine, Resources, start};
 use mm_text::Counted;
-use progress_line::ProgressLine;
 use std::io::{self, IsTerminal};
 use std::process::ExitCode;
 use std::random::RandomSource;
@@ -60,7 +47,7 @@ fn main(rt: HostRuntime) -> ExitCode {
     let pages = program_pages();
     let chapters = rule_chapters();
     let texts = program_texts(&pages, &chapters);
-    ExitCode::from(serve::start(
+    ExitCode::from(start(
         resources,
         &host,
         &host,

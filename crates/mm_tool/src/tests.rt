@@ -5,16 +5,15 @@ mod failing;
 mod folder;
 mod hint;
 mod progress_line;
+mod words;
 
-use crate::folder::Resources;
-use crate::progress_line::ProgressLine;
-use crate::serve::{run_over, serve, start};
 use failing::{FailingFolder, Failure, Wordless, failing_writer};
 use folder::{Entry, Shelf};
 use mm_base::Seed;
-use mm_check::{Command, LoneQuestion, Question, Telling, WholeQuestion};
+use mm_check::{Command, WholeQuestion};
 use mm_help::{Page, Texts};
 use mm_rules::Status;
+use mm_serve::{ProgressLine, Resources, run_over, serve_words, start};
 use mm_step::Profile;
 use mm_text::Counted;
 use mm_words::{Request, TextQuestion, request_of};
@@ -113,7 +112,7 @@ fn outcome_of(alloc: Global, words: &[&str]) -> (u8, Vec<u8>, Vec<u8>) {
     let entries = ENTRIES;
     let mut out = Counted::new(Vec::new(alloc));
     let mut err = Counted::new(Vec::new(alloc));
-    let status = serve(
+    let status = serve_words(
         resources(alloc),
         &Shelf(&entries),
         &TEXTS,
@@ -183,167 +182,21 @@ fn replies(rt: HostRuntime) {
     }
 }
 
-/// Whether the words ask to run this command over `first.mm`.
-fn asks_to_run(alloc: Global, words: &[&str], wanted: Command<'_>) -> bool {
-    match request_of(alloc, words) {
-        Ok(Request::Run { command, names }) => {
-            command == wanted && names.as_slice() == ["first.mm"].as_slice()
-        }
-        _ => false,
-    }
-}
-
-// A flag may stand before the label or after it.
-#[test]
-fn asks_by_its_words(rt: HostRuntime) {
-    let why = |profile| Command::Whole {
-        profile,
-        question: WholeQuestion::Why { source: false },
-    };
-    let known = |telling| Command::Lone {
-        label: b"th".as_slice(),
-        question: LoneQuestion::Known(telling),
-    };
-    let show = Command::About {
-        label: b"th".as_slice(),
-        question: Question::Show,
-    };
-    let letters = Command::About {
-        label: b"th".as_slice(),
-        question: Question::Letters,
-    };
-    let uses = |essential| Command::About {
-        label: b"th".as_slice(),
-        question: Question::Uses { essential },
-    };
-    let axioms = Command::About {
-        label: b"th".as_slice(),
-        question: Question::Axioms { essential: false },
-    };
-    let all_axioms = |essential| Command::Whole {
-        profile: Profile::Lenient,
-        question: WholeQuestion::Axioms { essential },
-    };
-    let statement = Command::Statement(b"th".as_slice());
-    for (words, wanted) in [
-        (["mm", "why", "first.mm"].as_slice(), why(Profile::Lenient)),
-        (["mm", "axioms", "th", "first.mm"].as_slice(), axioms),
-        (
-            ["mm", "axioms", "first.mm", "--all"].as_slice(),
-            all_axioms(false),
-        ),
-        (
-            ["mm", "axioms", "--all", "--essential", "first.mm"].as_slice(),
-            all_axioms(true),
-        ),
-        (["mm", "statement", "th", "first.mm"].as_slice(), statement),
-        (
-            ["mm", "why", "--strict", "first.mm"].as_slice(),
-            why(Profile::Strict),
-        ),
-        (["mm", "show", "th", "first.mm"].as_slice(), show),
-        (
-            ["mm", "show", "--known", "th", "first.mm"].as_slice(),
-            known(Telling::Steps),
-        ),
-        (
-            ["mm", "show", "th", "--letters", "--known", "first.mm"].as_slice(),
-            known(Telling::Letters),
-        ),
-        (
-            ["mm", "show", "--letters", "th", "first.mm"].as_slice(),
-            letters,
-        ),
-        (
-            ["mm", "show", "--essential", "th", "first.mm"].as_slice(),
-            uses(true),
-        ),
-        (
-            ["mm", "show", "--uses", "th", "first.mm"].as_slice(),
-            uses(false),
-        ),
-    ] {
-        assert!(rt; asks_to_run(rt.alloc(), words, wanted), "at {words:?}");
-    }
-}
-
-// With `--list` each word names a file, with `--all` the first one that of the file.
-#[test]
-fn asks_for_shorter_proofs_by_its_words(rt: HostRuntime) {
-    let minimized = Command::About {
-        label: b"th".as_slice(),
-        question: Question::Minimized,
-    };
-    let listed = Command::Whole {
-        profile: Profile::Lenient,
-        question: WholeQuestion::Shorter,
-    };
-    let file = |duplicates| Command::Shorter {
-        file: 0,
-        duplicates,
-    };
-    for (words, wanted) in [
-        (["mm", "minimize", "th", "first.mm"].as_slice(), minimized),
-        (["mm", "minimize", "--list", "first.mm"].as_slice(), listed),
-        (["mm", "minimize", "first.mm", "--list"].as_slice(), listed),
-        (
-            ["mm", "minimize", "--all", "first.mm", "first.mm"].as_slice(),
-            file(false),
-        ),
-        (
-            [
-                "mm",
-                "minimize",
-                "--duplicates",
-                "--all",
-                "first.mm",
-                "first.mm",
-            ]
-            .as_slice(),
-            file(true),
-        ),
-    ] {
-        assert!(rt; asks_to_run(rt.alloc(), words, wanted), "at {words:?}");
-    }
-}
-
 #[test]
 fn takes_flags_of_minimize_that_agree(rt: HostRuntime) {
-    for (first, second) in [("--all", "--list"), ("--list", "--duplicates")] {
+    for (first, second) in [
+        ("--all", "--list"),
+        ("--list", "--duplicates"),
+        ("--file", "--all"),
+        ("--file", "--list"),
+        ("--file", "--duplicates"),
+    ] {
         let words = ["mm", "minimize", first, second, "first.mm", "first.mm"];
         let (status, out, err) = outcome_of(rt.alloc(), &words);
         assert_eq!(rt; status, 2);
         assert!(rt; out.is_empty());
-        assert!(rt; err.starts_with(b"mm: --list stands alone, and --duplicates beside --all\n"));
-    }
-}
-
-#[test]
-fn asks_for_lemmas_by_its_words(rt: HostRuntime) {
-    let listed = |most, least| Command::Lemmas { most, least };
-    for (words, wanted) in [
-        (
-            ["mm", "lemmas", "--list", "first.mm"].as_slice(),
-            listed(100, 1),
-        ),
-        (
-            ["mm", "lemmas", "--most", "7", "first.mm", "--list"].as_slice(),
-            listed(7, 1),
-        ),
-        (
-            [
-                "mm",
-                "lemmas",
-                "--list",
-                "--least",
-                "4294967295",
-                "first.mm",
-            ]
-            .as_slice(),
-            listed(100, 4_294_967_295),
-        ),
-    ] {
-        assert!(rt; asks_to_run(rt.alloc(), words, wanted), "at {words:?}");
+        let told = b"mm: --file and --list stand alone, and --duplicates beside --all\n";
+        assert!(rt; err.starts_with(told.as_slice()));
     }
 }
 
@@ -388,6 +241,19 @@ fn takes_one_flag_of_show(rt: HostRuntime) {
         assert_eq!(rt; status, 2);
         assert!(rt; out.is_empty());
         assert!(rt; err.starts_with(b"mm: --letters, --essential and --uses exclude each other\n"));
+    }
+}
+
+#[test]
+fn refuses_a_known_proof_beside_files(rt: HostRuntime) {
+    for words in [
+        ["mm", "normal", "--known", "--file", "th", "first.mm"],
+        ["mm", "normal", "--all", "--known", "first.mm", "first.mm"],
+    ] {
+        let (status, out, err) = outcome_of(rt.alloc(), &words);
+        assert_eq!(rt; status, 2);
+        assert!(rt; out.is_empty());
+        assert!(rt; err.starts_with(b"mm: --known excludes --file and --all\n"));
     }
 }
 
@@ -644,7 +510,7 @@ fn stops_writing(
     let entries = ENTRIES;
     let mut out = failing_writer(alloc, fails_at, failure);
     let mut err = Counted::new(Vec::new(alloc));
-    let status = serve(
+    let status = serve_words(
         resources(alloc),
         &Shelf(&entries),
         &TEXTS,
@@ -688,7 +554,7 @@ fn stops_telling(alloc: Global, words: &[&str], line: &[u8], fails_at: usize) ->
     let entries = ENTRIES;
     let mut out = Counted::new(Vec::new(alloc));
     let mut err = failing_writer(alloc, fails_at, Failure::Error);
-    let status = serve(
+    let status = serve_words(
         resources(alloc),
         &Shelf(&entries),
         &TEXTS,
@@ -730,7 +596,7 @@ fn stops_reading(alloc: Global, words: &[&str], fails_at: usize) -> bool {
     };
     let mut out = Counted::new(Vec::new(alloc));
     let mut err = Counted::new(Vec::new(alloc));
-    let status = serve(
+    let status = serve_words(
         resources(alloc),
         &folder,
         &TEXTS,

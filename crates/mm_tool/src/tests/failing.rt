@@ -2,9 +2,9 @@
 
 ghost use Rattle.std.specs.Prelude.{◌≡◌, ⊤, None};
 ghost use Rattle.mm_text.specs.Device.{faults_of};
-ghost use Rattle.mm_tool.specs.Folder.{Unknown};
+ghost use Rattle.mm_serve.specs.Folder.{Unknown};
 
-use crate::folder::Folder;
+use mm_serve::Folder;
 use mm_text::Counted;
 use mm_words::{ArgumentFault, Arguments, words_of};
 use std::alloc::Global;

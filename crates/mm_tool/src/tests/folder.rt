@@ -3,9 +3,9 @@
 ghost use Rattle.std.specs.Prelude.{◌≡◌, ⊤, List, ℕ, Some, MatchOption, find, option_map};
 ghost use Rattle.std.specs.Prelude.{true, unwrap_or};
 ghost use Rattle.std.specs.Str.{bytes_eq};
-ghost use Rattle.mm_tool.specs.Folder.{Absent, Holds, MayHold};
+ghost use Rattle.mm_serve.specs.Folder.{Absent, Holds, MayHold};
 
-use crate::folder::Folder;
+use mm_serve::Folder;
 use mm_text::Source;
 use std::io;
 use std::io::{ErrorKind, Read};

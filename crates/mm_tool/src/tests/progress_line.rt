@@ -3,8 +3,7 @@
 use super::failing::{Failure, failing_writer};
 use super::folder::{Entry, Shelf};
 use super::{TEXTS, resources};
-use crate::progress_line::ProgressLine;
-use crate::serve::serve;
+use mm_serve::{ProgressLine, serve_words};
 use mm_text::Counted;
 use std::alloc::Global;
 use std::io::Write;
@@ -52,7 +51,7 @@ fn outcome_of<P: Write>(
     let entries = [ADDED, TWENTY];
     let mut out = Counted::new(Vec::new(alloc));
     let mut err = Counted::new(Vec::new(alloc));
-    let status = serve(
+    let status = serve_words(
         resources(alloc),
         &Shelf(&entries),
         &TEXTS,

@@ -1,0 +1,4 @@
+pub mod FilesRead
+pub mod AnsweredWords
+pub mod ComparedVersions
+pub mod NotedReplies

@@ -1,4 +1,0 @@
-pub mod FilesRead
-pub mod AnsweredWords
-pub mod ComparedVersions
-pub mod MendsTold
