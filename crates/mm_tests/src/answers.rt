@@ -96,8 +96,9 @@ fn label_of<'a>(command: &Command<'a>) -> &'a [u8] {
     match command {
         Command::Whole { .. } | Command::File { .. } | Command::Shorter { .. } => b"",
         Command::Find { .. } | Command::Lemmas { .. } => b"",
-        Command::About { label, .. } | Command::Lone { label, .. } => label,
-        Command::Statement(label) => label,
+        Command::About { label, .. }
+        | Command::Lone { label, .. }
+        | Command::Statement { label, .. } => label,
     }
 }
 

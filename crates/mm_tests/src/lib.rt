@@ -29,6 +29,8 @@ mod forms;
 #[cfg(test)]
 mod incomplete;
 #[cfg(test)]
+mod known;
+#[cfg(test)]
 mod letters;
 #[cfg(test)]
 mod lone;
@@ -68,6 +70,8 @@ mod users;
 mod uses;
 #[cfg(test)]
 mod why;
+#[cfg(test)]
+mod why_groups;
 #[cfg(test)]
 mod why_hypotheses;
 #[cfg(test)]

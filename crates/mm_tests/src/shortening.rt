@@ -99,12 +99,12 @@ const ANN: &[u8] = b"$( #*#*# Mathbox for Ann $)\n";
 const BOB: &[u8] = b"$( #*#*# Mathbox for Bob $)\n";
 
 /// The shortest proof of one theorem.
-const MINIMIZED: [Asked; 12] = [
+const MINIMIZED: [Asked; 16] = [
     Asked {
         name: "a shorter proof by an earlier theorem",
         command: About {
             label: b"kk",
-            question: Question::Minimized,
+            question: Question::Minimized { whole: false },
         },
         files: &[(b"a.mm", &[Text(HEAD), Text(ADD), Text(LONG)])],
         reply: &[Text(b"      ( wim k add )\n"), Text(b"      ABADDCABEF\n")],
@@ -114,7 +114,7 @@ const MINIMIZED: [Asked; 12] = [
         name: "a proof by one theorem alone",
         command: About {
             label: b"th",
-            question: Question::Minimized,
+            question: Question::Minimized { whole: false },
         },
         files: &[(b"a.mm", &[Text(HEAD), Text(ADD), Text(TWIN)])],
         reply: &[Text(b"      ( add )\n"), Text(b"      ABCD\n")],
@@ -124,7 +124,7 @@ const MINIMIZED: [Asked; 12] = [
         name: "no proof by a theorem that comes later",
         command: About {
             label: b"kk",
-            question: Question::Minimized,
+            question: Question::Minimized { whole: false },
         },
         files: &[(b"a.mm", &[Text(HEAD), Text(LONG), Text(ADD)])],
         reply: &[
@@ -137,7 +137,7 @@ const MINIMIZED: [Asked; 12] = [
         name: "no proof by a theorem of which new uses are discouraged",
         command: About {
             label: b"kk",
-            question: Question::Minimized,
+            question: Question::Minimized { whole: false },
         },
         files: &[(b"a.mm", &[Text(HEAD), Text(MARKED), Text(LONG)])],
         reply: &[
@@ -150,7 +150,7 @@ const MINIMIZED: [Asked; 12] = [
         name: "no shorter proof of a theorem whose proof is to stay",
         command: About {
             label: b"kk",
-            question: Question::Minimized,
+            question: Question::Minimized { whole: false },
         },
         files: &[(b"a.mm", &[Text(HEAD), Text(ADD), Text(SETTLED), Text(LONG)])],
         reply: &[
@@ -163,7 +163,7 @@ const MINIMIZED: [Asked; 12] = [
         name: "no proof by a theorem of another mathbox",
         command: About {
             label: b"kk",
-            question: Question::Minimized,
+            question: Question::Minimized { whole: false },
         },
         files: &[(
             b"a.mm",
@@ -179,7 +179,7 @@ const MINIMIZED: [Asked; 12] = [
         name: "a proof by a theorem of the same mathbox",
         command: About {
             label: b"kk",
-            question: Question::Minimized,
+            question: Question::Minimized { whole: false },
         },
         files: &[(b"a.mm", &[Text(HEAD), Text(ANN), Text(ADD), Text(LONG)])],
         reply: &[Text(b"      ( wim k add )\n"), Text(b"      ABADDCABEF\n")],
@@ -189,7 +189,7 @@ const MINIMIZED: [Asked; 12] = [
         name: "a proof in a mathbox by a theorem that stands in none",
         command: About {
             label: b"kk",
-            question: Question::Minimized,
+            question: Question::Minimized { whole: false },
         },
         files: &[(b"a.mm", &[Text(HEAD), Text(ADD), Text(ANN), Text(LONG)])],
         reply: &[Text(b"      ( wim k add )\n"), Text(b"      ABADDCABEF\n")],
@@ -199,7 +199,7 @@ const MINIMIZED: [Asked; 12] = [
         name: "a shorter proof of a theorem of which new uses are discouraged",
         command: About {
             label: b"kk",
-            question: Question::Minimized,
+            question: Question::Minimized { whole: false },
         },
         files: &[(
             b"a.mm",
@@ -212,7 +212,7 @@ const MINIMIZED: [Asked; 12] = [
         name: "no proof by an axiom on which the theorem does not rest",
         command: About {
             label: b"th",
-            question: Question::Minimized,
+            question: Question::Minimized { whole: false },
         },
         files: &[(b"a.mm", &[Text(HEAD), Text(AXIOM), Text(TWIN)])],
         reply: &[Text(b"      ( wim k mp )\n"), Text(b"      ABADCABEF\n")],
@@ -222,7 +222,7 @@ const MINIMIZED: [Asked; 12] = [
         name: "no proof is shortened where there is none",
         command: About {
             label: b"u",
-            question: Question::Minimized,
+            question: Question::Minimized { whole: false },
         },
         files: &[(b"a.mm", &[Text(HEAD), Text(ADD), Text(UNPROVED)])],
         reply: &[Text(b"ask A3 u\n")],
@@ -232,11 +232,54 @@ const MINIMIZED: [Asked; 12] = [
         name: "no proof is shortened of an axiom",
         command: About {
             label: b"k",
-            question: Question::Minimized,
+            question: Question::Minimized { whole: false },
         },
         files: &[(b"a.mm", &[Text(HEAD), Text(ADD)])],
         reply: &[Text(b"ask A2 k\n")],
         status: 1,
+    },
+    Asked {
+        name: "the file of a theorem, with its proof by one theorem alone",
+        command: About {
+            label: b"th",
+            question: Question::Minimized { whole: true },
+        },
+        files: &[(b"a.mm", &[Text(HEAD), Text(ADD), Text(TWIN), Text(LONG)])],
+        reply: &[Text(HEAD), Text(ADD), Text(TWIN_SHORT), Text(LONG)],
+        status: 0,
+    },
+    Asked {
+        name: "the included file of a theorem, with its shorter proof",
+        command: About {
+            label: b"kk",
+            question: Question::Minimized { whole: true },
+        },
+        files: &[
+            (b"top.mm", &[Text(b"$[ a.mm $]\n"), Text(TWIN)]),
+            (b"a.mm", &[Text(HEAD), Text(ADD), Text(LONG)]),
+        ],
+        reply: &[Text(HEAD), Text(ADD), Text(SHORT)],
+        status: 0,
+    },
+    Asked {
+        name: "the file of a theorem as it is, where no shorter proof is found",
+        command: About {
+            label: b"kk",
+            question: Question::Minimized { whole: true },
+        },
+        files: &[(b"a.mm", &[Text(HEAD), Text(LONG), Text(ADD)])],
+        reply: &[Text(HEAD), Text(LONG), Text(ADD)],
+        status: 0,
+    },
+    Asked {
+        name: "no file of a theorem whose proof is incomplete",
+        command: About {
+            label: b"u",
+            question: Question::Minimized { whole: true },
+        },
+        files: &[(b"a.mm", &[Text(HEAD), Text(ADD), Text(UNPROVED)])],
+        reply: &[Text(b"ask A3 u\n")],
+        status: 3,
     },
 ];
 

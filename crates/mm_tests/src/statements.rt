@@ -64,7 +64,10 @@ $}
 /// What stands at a label.
 pub(crate) const STATEMENTS: [(Command<'static>, Case); 17] = [
     (
-        Statement(b"wph"),
+        Statement {
+            label: b"wph",
+            comment: false,
+        },
         Case {
             name: "a hypothesis that types a variable",
             files: &[(b"l.mm", &[Text(LOGIC)])],
@@ -73,7 +76,10 @@ pub(crate) const STATEMENTS: [(Command<'static>, Case); 17] = [
         },
     ),
     (
-        Statement(b"maj"),
+        Statement {
+            label: b"maj",
+            comment: false,
+        },
         Case {
             name: "an essential hypothesis in a block",
             files: &[(b"l.mm", &[Text(LOGIC)])],
@@ -82,7 +88,10 @@ pub(crate) const STATEMENTS: [(Command<'static>, Case); 17] = [
         },
     ),
     (
-        Statement(b"wi"),
+        Statement {
+            label: b"wi",
+            comment: false,
+        },
         Case {
             name: "an axiom of syntax",
             files: &[(b"l.mm", &[Text(LOGIC)])],
@@ -91,7 +100,10 @@ pub(crate) const STATEMENTS: [(Command<'static>, Case); 17] = [
         },
     ),
     (
-        Statement(b"ax-mp"),
+        Statement {
+            label: b"ax-mp",
+            comment: false,
+        },
         Case {
             name: "hypotheses in the order of the database",
             files: &[(b"l.mm", &[Text(LOGIC)])],
@@ -100,7 +112,10 @@ pub(crate) const STATEMENTS: [(Command<'static>, Case); 17] = [
         },
     ),
     (
-        Statement(b"ax-d"),
+        Statement {
+            label: b"ax-d",
+            comment: false,
+        },
         Case {
             name: "a mandatory pair, and nothing more of an axiom",
             files: &[(b"l.mm", &[Text(LOGIC)])],
@@ -109,7 +124,10 @@ pub(crate) const STATEMENTS: [(Command<'static>, Case); 17] = [
         },
     ),
     (
-        Statement(b"none"),
+        Statement {
+            label: b"none",
+            comment: false,
+        },
         Case {
             name: "no statement",
             files: &[(b"l.mm", &[Text(LOGIC)])],
@@ -118,7 +136,10 @@ pub(crate) const STATEMENTS: [(Command<'static>, Case); 17] = [
         },
     ),
     (
-        Statement(b"th"),
+        Statement {
+            label: b"th",
+            comment: false,
+        },
         Case {
             name: "what says more than the mandatory pairs of a theorem",
             files: &[(b"l.mm", &[Text(BLOCKS)])],
@@ -127,7 +148,10 @@ pub(crate) const STATEMENTS: [(Command<'static>, Case); 17] = [
         },
     ),
     (
-        Statement(b"u"),
+        Statement {
+            label: b"u",
+            comment: false,
+        },
         Case {
             name: "no hypothesis of a block that is closed",
             files: &[(b"l.mm", &[Text(BLOCKS)])],
@@ -136,7 +160,10 @@ pub(crate) const STATEMENTS: [(Command<'static>, Case); 17] = [
         },
     ),
     (
-        Statement(b"q"),
+        Statement {
+            label: b"q",
+            comment: false,
+        },
         Case {
             name: "an unproved theorem",
             files: &[(b"l.mm", &[Text(BLOCKS)])],
@@ -145,7 +172,10 @@ pub(crate) const STATEMENTS: [(Command<'static>, Case); 17] = [
         },
     ),
     (
-        Statement(b"a"),
+        Statement {
+            label: b"a",
+            comment: false,
+        },
         Case {
             name: "a statement in an included file",
             files: &[
@@ -157,7 +187,10 @@ pub(crate) const STATEMENTS: [(Command<'static>, Case); 17] = [
         },
     ),
     (
-        Statement(b"a"),
+        Statement {
+            label: b"a",
+            comment: false,
+        },
         Case {
             name: "a statement before a fault of meaning",
             files: &[(b"l.mm", &[Text(b"$c x $. a $a x $. $c x $.\n")])],
@@ -166,7 +199,10 @@ pub(crate) const STATEMENTS: [(Command<'static>, Case); 17] = [
         },
     ),
     (
-        Statement(b"a"),
+        Statement {
+            label: b"a",
+            comment: false,
+        },
         Case {
             name: "a statement before a fault of the text",
             files: &[(b"l.mm", &[Text(b"$c x $. a $a x $. b $a x\n")])],
@@ -175,7 +211,10 @@ pub(crate) const STATEMENTS: [(Command<'static>, Case); 17] = [
         },
     ),
     (
-        Statement(b"b"),
+        Statement {
+            label: b"b",
+            comment: false,
+        },
         Case {
             name: "a statement behind a fault of meaning",
             files: &[(b"l.mm", &[Text(b"$c x $. a $a x $. $c x $. b $a x $.\n")])],
@@ -184,7 +223,10 @@ pub(crate) const STATEMENTS: [(Command<'static>, Case); 17] = [
         },
     ),
     (
-        Statement(b"b"),
+        Statement {
+            label: b"b",
+            comment: false,
+        },
         Case {
             name: "a statement that breaks a rule of meaning",
             files: &[(b"l.mm", &[Text(b"$c x $.\nb $a y $.\n")])],
@@ -193,7 +235,10 @@ pub(crate) const STATEMENTS: [(Command<'static>, Case); 17] = [
         },
     ),
     (
-        Statement(b"c"),
+        Statement {
+            label: b"c",
+            comment: false,
+        },
         Case {
             name: "no statement, where one behind breaks a rule of meaning",
             files: &[(b"l.mm", &[Text(b"$c x $. a $a x $. $c x $.\n")])],
@@ -202,7 +247,10 @@ pub(crate) const STATEMENTS: [(Command<'static>, Case); 17] = [
         },
     ),
     (
-        Statement(b"q"),
+        Statement {
+            label: b"q",
+            comment: false,
+        },
         Case {
             name: "a theorem with a faulty proof, behind another",
             files: &[(
@@ -214,12 +262,172 @@ pub(crate) const STATEMENTS: [(Command<'static>, Case); 17] = [
         },
     ),
     (
-        Statement(b"a"),
+        Statement {
+            label: b"a",
+            comment: false,
+        },
         Case {
             name: "two files with one name",
             files: &[(b"l.mm", &[Text(b"$c x $.\n")]), (b"l.mm", &[Text(b"")])],
             reply: b"load F2\n",
             status: 4,
+        },
+    ),
+];
+
+/// Statements with comments right before them, and elsewhere.
+const COMMENTS: &[u8] = b"$c a $. $( One. $) one $a a $. two $a a $.
+$( Of the block. $) ${ $( First. $) $( Of h. $)
+h $e a $. in $a a $. $}
+$( Cut $v x $. $) $v x $. $( Last.\r\n\t\x0c ~ one  $)\r\n\r\n\t last $p a $= one $.
+$( Behind. $)
+";
+
+/// Statements that are told with the comments right before them.
+pub(crate) const COMMENTED: [(Command<'static>, Case); 5] = [
+    (
+        Statement {
+            label: b"one",
+            comment: true,
+        },
+        Case {
+            name: "the comment right before a statement",
+            files: &[(b"c.mm", &[Text(COMMENTS)])],
+            reply: b"$( One. $)\nc.mm:1:20\none $a a\n",
+            status: 0,
+        },
+    ),
+    (
+        Statement {
+            label: b"h",
+            comment: true,
+        },
+        Case {
+            name: "the last comment before a hypothesis",
+            files: &[(b"c.mm", &[Text(COMMENTS)])],
+            reply: b"$( Of h. $)\nc.mm:3:1\nh $e a\n",
+            status: 0,
+        },
+    ),
+    (
+        Statement {
+            label: b"last",
+            comment: true,
+        },
+        Case {
+            name: "a comment with its bytes, carriage returns too",
+            files: &[(b"c.mm", &[Text(COMMENTS)])],
+            reply: b"$( Last.\r\n\t\x0c ~ one  $)\nc.mm:7:3\nlast $p a\n",
+            status: 0,
+        },
+    ),
+    (
+        Statement {
+            label: b"in",
+            comment: true,
+        },
+        Case {
+            name: "a comment of an included file",
+            files: &[
+                (b"t.mm", &[Text(b"$( Top. $) $[ i.mm $] out $a a $.")]),
+                (b"i.mm", &[Text(b"$c a $. $( In. $) in $a a $. $( Out. $)")]),
+            ],
+            reply: b"$( In. $)\ni.mm:1:19\nin $a a\n",
+            status: 0,
+        },
+    ),
+    (
+        Statement {
+            label: b"th",
+            comment: true,
+        },
+        Case {
+            name: "a comment without text",
+            files: &[(b"t.mm", &[Text(b"$c a $. $( $)\tth $a a $. nothing $.")])],
+            reply: b"$( $)\nt.mm:1:15\nth $a a\n",
+            status: 0,
+        },
+    ),
+];
+
+/// Statements that are told without a comment.
+pub(crate) const UNCOMMENTED: [(Command<'static>, Case); 6] = [
+    (
+        Statement {
+            label: b"one",
+            comment: false,
+        },
+        Case {
+            name: "a comment isn't told unasked",
+            files: &[(b"c.mm", &[Text(COMMENTS)])],
+            reply: b"c.mm:1:20\none $a a\n",
+            status: 0,
+        },
+    ),
+    (
+        Statement {
+            label: b"two",
+            comment: true,
+        },
+        Case {
+            name: "the comment before the statement before",
+            files: &[(b"c.mm", &[Text(COMMENTS)])],
+            reply: b"c.mm:1:32\ntwo $a a\n",
+            status: 0,
+        },
+    ),
+    (
+        Statement {
+            label: b"in",
+            comment: true,
+        },
+        Case {
+            name: "a comment before the block, and one of a hypothesis",
+            files: &[(b"c.mm", &[Text(COMMENTS)])],
+            reply: b"c.mm:3:11\nh $e a\nin $a a\n",
+            status: 0,
+        },
+    ),
+    (
+        Statement {
+            label: b"th",
+            comment: true,
+        },
+        Case {
+            name: "another token stands between",
+            files: &[(b"t.mm", &[Text(b"$c a $. $( It. $) $v x $. th $a a $.")])],
+            reply: b"t.mm:1:27\nth $a a\n",
+            status: 0,
+        },
+    ),
+    (
+        Statement {
+            label: b"out",
+            comment: true,
+        },
+        Case {
+            name: "an inclusion stands between",
+            files: &[
+                (b"t.mm", &[Text(b"$( Top. $) $[ i.mm $] out $a a $.")]),
+                (b"i.mm", &[Text(b"$c a $. $( In. $)")]),
+            ],
+            reply: b"t.mm:1:23\nout $a a\n",
+            status: 0,
+        },
+    ),
+    (
+        Statement {
+            label: b"first",
+            comment: true,
+        },
+        Case {
+            name: "nothing stands before",
+            files: &[
+                (b"t.mm", &[Text(b"$c a $. $[ i.mm $]")]),
+                (b"i.mm", &[Text(b"first $a a $. $( Behind. $)")]),
+            ],
+            reply: b"i.mm:1:1\nfirst $a a\n",
+            status: 0,
         },
     ),
 ];

@@ -8,9 +8,9 @@ ghost use Rattle.mm_text.specs.Files.{plain_file};
 ghost use Rattle.mm_check.specs.Reply.{AsksHanded};
 
 use crate::{
-    Case, Part, compressed, damaged, faults, files, finding, incomplete, letters, lone, names,
-    one_file, orders, prefixes, profiles, proofs, questions, scopes, statements, users, uses, why,
-    why_hypotheses, why_meaning, why_source, why_text,
+    Case, Part, compressed, damaged, faults, files, finding, incomplete, known, letters, lone,
+    names, one_file, orders, prefixes, profiles, proofs, questions, scopes, statements, users,
+    uses, why, why_groups, why_hypotheses, why_meaning, why_source, why_text,
 };
 use mm_base::{File, Seed, Statement};
 use mm_check::{Command, WholeQuestion, run};
@@ -302,7 +302,7 @@ fn explained_faults_in_order(rt: HostRuntime) -> Result<(), Fail> {
 
 #[test]
 fn explained_faults_of_a_group(rt: HostRuntime) -> Result<(), Fail> {
-    compare_commands(&rt, rt.alloc(), &why::GROUPS)
+    compare_commands(&rt, rt.alloc(), &why_groups::GROUPS)
 }
 
 #[test]
@@ -547,6 +547,16 @@ fn found_assertions(rt: HostRuntime) -> Result<(), Fail> {
 }
 
 #[test]
+fn statements_with_their_comments(rt: HostRuntime) -> Result<(), Fail> {
+    compare_commands(&rt, rt.alloc(), &statements::COMMENTED)
+}
+
+#[test]
+fn statements_without_comments(rt: HostRuntime) -> Result<(), Fail> {
+    compare_commands(&rt, rt.alloc(), &statements::UNCOMMENTED)
+}
+
+#[test]
 fn tried_texts(rt: HostRuntime) -> Result<(), Fail> {
     compare_commands(&rt, rt.alloc(), &lone::TRIED)
 }
@@ -564,6 +574,16 @@ fn texts_without_tokens(rt: HostRuntime) -> Result<(), Fail> {
 #[test]
 fn known_faults(rt: HostRuntime) -> Result<(), Fail> {
     compare_commands(&rt, rt.alloc(), &lone::KNOWN_FAULTS)
+}
+
+#[test]
+fn normal_proofs_so_far(rt: HostRuntime) -> Result<(), Fail> {
+    compare_commands(&rt, rt.alloc(), &known::KNOWN_NORMAL)
+}
+
+#[test]
+fn normal_proofs_before_faults(rt: HostRuntime) -> Result<(), Fail> {
+    compare_commands(&rt, rt.alloc(), &known::FAULTY_NORMAL)
 }
 
 #[test]

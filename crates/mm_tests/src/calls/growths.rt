@@ -46,12 +46,16 @@ fn once_more<T, E: Drop>(answer: Result<T, E>) -> Result<T, Fail> {
 
 /// The reply to a command and its status; nothing where memory ran out, and nothing is written
 /// then.
-fn reply_or_memory(alloc: Global, command: &Command) -> Result<Option<(Vec<u8>, Status)>, Fail> {
-    if !asks_handed(command, &FILES) {
+fn reply_or_memory(
+    alloc: Global,
+    files: &[File],
+    command: &Command,
+) -> Result<Option<(Vec<u8>, Status)>, Fail> {
+    if !asks_handed(command, files) {
         return Err(Fail::from("a file that is not handed in"));
     }
     let mut out = Counted::new(Vec::with_capacity(alloc, ROOM)?);
-    let answer = run(alloc, Seed::known(), command, &FILES, &mut out);
+    let answer = run(alloc, Seed::known(), command, files, &mut out);
     let text = out.into_inner();
     match answer {
         Ok(status) => Ok(Some((text, status))),
@@ -62,18 +66,23 @@ fn reply_or_memory(alloc: Global, command: &Command) -> Result<Option<(Vec<u8>, 
 }
 
 /// The reply to a command, asked once more where memory ran out the first time.
-fn reply_to(alloc: Global, command: &Command) -> Result<(Vec<u8>, Status), Fail> {
-    if let Some(reply) = reply_or_memory(alloc, command)? {
+fn reply_to(alloc: Global, files: &[File], command: &Command) -> Result<(Vec<u8>, Status), Fail> {
+    if let Some(reply) = reply_or_memory(alloc, files, command)? {
         return Ok(reply);
     }
-    Ok(reply_or_memory(alloc, command)?.ok_or("memory is wanting twice")?)
+    Ok(reply_or_memory(alloc, files, command)?.ok_or("memory is wanting twice")?)
+}
+
+/// A command over these files is answered alike twice.
+fn expect_replies_over(alloc: Global, files: &[File], command: &Command) -> Result<(), Fail> {
+    let first = reply_to(alloc, files, command)?;
+    let second = reply_to(alloc, files, command)?;
+    expect(first == second && !first.0.is_empty(), "another reply")
 }
 
 /// A command is answered alike twice.
 fn expect_replies(alloc: Global, command: &Command) -> Result<(), Fail> {
-    let first = reply_to(alloc, command)?;
-    let second = reply_to(alloc, command)?;
-    expect(first == second && !first.0.is_empty(), "another reply")
+    expect_replies_over(alloc, &FILES, command)
 }
 
 #[test]
@@ -87,6 +96,19 @@ fn growths_of_check(rt: HostRuntime) -> Result<(), Fail> {
             question: WholeQuestion::Check,
         },
     )
+}
+
+#[test]
+fn growths_of_statements(rt: HostRuntime) -> Result<(), Fail> {
+    let files = [File {
+        name: b"t.mm",
+        bytes: b"$c a $.\n$( It holds. $)\nth $a a $.\n",
+    }];
+    for comment in [false, true] {
+        let label = b"th".as_slice();
+        expect_replies_over(rt.alloc(), &files, &Command::Statement { label, comment })?;
+    }
+    Ok(())
 }
 
 #[test]
@@ -188,7 +210,7 @@ fn answer_to(
         Question::Chain(_) | Question::Letters => Ok(Vec::new(alloc)),
         Question::Users { all } => users_text(alloc, checked, label, *all),
         // It is asked by a command alone, so this is what is told where no search finds anything.
-        Question::Minimized => small_form(alloc, checked, label),
+        Question::Minimized { .. } => small_form(alloc, checked, label),
     }
 }
 

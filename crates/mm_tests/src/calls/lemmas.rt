@@ -7,6 +7,7 @@ use mm_lemmas::{Selection, lemma_list};
 use mm_minimize::{SearchWatch, Searched};
 use mm_rules::Status;
 use mm_verdict::{Reply, SoFar, Watch, check};
+use mm_with_lemmas::{judged_lemma_file, lemma_file_reply};
 use std::alloc::{AllocError, Global};
 use std::test::Fail;
 
@@ -58,6 +59,8 @@ four $p |- ( ( ( ( a or a ) or a ) or a ) or a ) $=
 five $p |- ( ( ( ( ( a or a ) or a ) or a ) or a ) or a ) $=
 ( wa wor given new1 ) AAABABABABCD $.
 ";
+
+const NO_SMALLER: &[u8] = b"mm: note: no lemma makes the file smaller\n";
 
 /// Keeps what it was told last, and what the search came to.
 #[derive(Clone, Copy)]
@@ -128,6 +131,17 @@ fn tells_a_lemma(rt: HostRuntime) -> Result<(), Fail> {
     Ok(())
 }
 
+/// A wish for so many lemmas at most, or for those on these lines.
+fn wish_for(most: usize, chosen: &[usize]) -> LemmaWish<'_> {
+    LemmaWish {
+        number: 0,
+        selection: Selection { most, least: 1 },
+        chosen,
+        prefix: b"new",
+        comment: Some(b"Weaken and commute."),
+    }
+}
+
 #[test]
 fn puts_a_lemma_in(rt: HostRuntime) -> Result<(), Fail> {
     let files = [File {
@@ -138,12 +152,7 @@ fn puts_a_lemma_in(rt: HostRuntime) -> Result<(), Fail> {
         .ok()
         .ok_or("refused")?;
     for (most, edits, bytes) in [(1, 6, WITH_LEMMA), (0, 0, LACKING)] {
-        let wish = LemmaWish {
-            number: 0,
-            selection: Selection { most, least: 1 },
-            prefix: b"new",
-            comment: Some(b"Weaken and commute."),
-        };
+        let wish = wish_for(most, &[]);
         let file = lemma_file(rt.alloc(), &checked, wish, &mut untold())
             .ok()
             .ok_or("no file")?;
@@ -151,6 +160,49 @@ fn puts_a_lemma_in(rt: HostRuntime) -> Result<(), Fail> {
         assert_eq!(rt; file.edits.len(), edits);
         assert!(rt; !file.is_cut);
     }
+    Ok(())
+}
+
+#[test]
+fn gives_what_is_judged(rt: HostRuntime) -> Result<(), Fail> {
+    let files = [File {
+        name: b"a.mm",
+        bytes: LACKING,
+    }];
+    let checked = check(rt.alloc(), Seed::known(), &files)
+        .ok()
+        .ok_or("refused")?;
+    let wish = wish_for(1, &[]);
+    let judged = judged_lemma_file(rt.alloc(), &checked, wish, &mut untold())?;
+    assert!(rt; !judged.is_cut);
+    let bytes = judged.bytes.ok_or("no such file")?;
+    assert!(rt; bytes.as_slice() == WITH_LEMMA);
+    Ok(())
+}
+
+/// Whether this is the reply for a file of these bytes with the lemmas on these lines, or with all.
+fn is_replied(
+    alloc: Global,
+    bytes: &[u8],
+    chosen: &[usize],
+    text: &[u8],
+    note: &[u8],
+) -> Result<bool, AllocError> {
+    let files = [File {
+        name: b"a.mm",
+        bytes,
+    }];
+    let wish = wish_for(9, chosen);
+    let told = lemma_file_reply(alloc, Seed::known(), &files, wish, &mut untold())?;
+    Ok(told.reply.text.as_slice() == text && told.note.as_slice() == note)
+}
+
+#[test]
+fn replies_with_a_file(rt: HostRuntime) -> Result<(), Fail> {
+    assert!(rt; is_replied(rt.alloc(), LACKING, &[], WITH_LEMMA, b"")?);
+    assert!(rt; is_replied(rt.alloc(), LACKING, &[3, 1], WITH_LEMMA, b"")?);
+    assert!(rt; is_replied(rt.alloc(), LACKING, &[2], LACKING, NO_SMALLER)?);
+    assert!(rt; is_replied(rt.alloc(), b"$}", &[], b"no a.mm 1 - S6 0\n", b"")?);
     Ok(())
 }
 
