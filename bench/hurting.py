@@ -345,6 +345,15 @@ def stars(folder, size):
     return asked(0, "check f.mm", "axioms --all f.mm", "users --all a0 f.mm", "lemmas --list f.mm")
 
 
+def many_used(folder, size):
+    """A theorem that uses so many axioms, each once."""
+    axioms = "".join(f"a{at} $a |- x $.\n" for at in range(size))
+    step = "${ e $e |- x $. f $e |- y $. mp $a |- x $. $}\n"
+    proof = "fx fx " * (size - 1) + "fx a0" + "".join(f" fx a{at} mp" for at in range(1, size))
+    write(folder, "f.mm", HEAD, axioms, step, f"th $p |- x $= {proof} $.\n")
+    return asked(0, "check f.mm", "lemmas --all f.mm f.mm")
+
+
 def mathboxes(folder, size):
     """So many headings of mathboxes, each with a theorem by the axiom."""
     boxes = (f"$(\n#*#*\nMathbox for N{at}\n#*#*\n$)\nt{at} $p |- x $= fx ax $.\n"
@@ -446,6 +455,7 @@ CASES = [
     ("steps of growing values before a fault that is to be mended", mended, 2_000),
     ("axioms of one shape", syntax, 40_000),
     ("theorems, each by an axiom of its own and a first one", stars, 25_000),
+    ("axioms that one theorem uses", many_used, 20_000),
     ("headings of mathboxes", mathboxes, 10_000),
     ("statements before a fault of text or meaning", texts, 50_000),
 ]

@@ -75,6 +75,11 @@ stages_of_sources() {
     stage 'the examples are those of the documents' docs/make-examples --check
     stage 'lack of memory is told where it was met' scripts/memory.sh
     stage 'each file of definitions and of lemmas says what it has' scripts/heads --check
+    if has rt; then
+        stage 'each source is in the layout' scripts/layout
+    else
+        skip 'each source is in the layout' 'rt is not on PATH'
+    fi
     stage 'no crate and no chain of crates is too large' scripts/chain --check
     stage 'docs/CONTRACTS.md is that of the sources' scripts/contracts --check
     stage 'the figure of the crates is that of the sources' scripts/figure --check
