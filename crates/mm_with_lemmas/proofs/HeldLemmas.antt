@@ -6,7 +6,8 @@ use Rattle.std.proofs.lemmas.List.Elements.{All-from_recursion}
 use Rattle.mm_base.specs.Statement.{PlainStatement}
 use Rattle.mm_text.specs.Files.{PlainFile}
 use Rattle.mm_save.specs.AllSaved.{Replacement, with_replaced}
-use Rattle.mm_with_lemmas.specs.WithLemmas.{AreApart, Edit, IsLemmaEdit, IsProofEdit, said}
+use Rattle.mm_with_lemmas.specs.WithLemmas.{AreApart, Edit, IsLemmaEdit, IsOtherProof}
+use Rattle.mm_with_lemmas.specs.WithLemmas.{IsProofEdit, said}
 use Rattle.mm_with_lemmas.specs.declared.change.Change.{Change}
 use Rattle.mm_with_lemmas.specs.declared.change.Change.TheVariants.{Proof, Lemmas}
 use Rattle.mm_with_lemmas.specs.Mirror.Editing.{ArePlaced, ArePut, IsEditOf, IsPlaced, place_of}
@@ -20,8 +21,16 @@ module _ (files : List PlainFile) (statements : List PlainStatement) (number : �
 
   edit_made : (change : Change) (edit : Edit) → IsPlaced files statements number change
       → IsEditOf change edit → IsEdit edit
-  edit_made (Proof span text) edit (s, among, unmarked, is) (place, none) =
-      inl (s, among, unmarked, ap (λ (r : Replacement). r.span) place ∙ is, none)
+  edit_made (Proof span text) edit (s, among, unmarked, is, other) (place, none) =
+      let text_is = sym (ap (λ (r : Replacement). r.text) place) in
+      inl (
+        s,
+        among,
+        unmarked,
+        ap (λ (r : Replacement). r.span) place ∙ is,
+        subst (λ (t : List ℕ). IsOtherProof t s) text_is other,
+        none,
+      )
   edit_made (Lemmas at text) edit placed (place, reads, some) =
       inr (
         ap (λ (r : Replacement). r.span.0) place ∙ sym (ap (λ (r : Replacement). r.span.1) place),

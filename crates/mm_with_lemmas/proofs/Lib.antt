@@ -1,4 +1,5 @@
 pub mod EditedBytes
+pub mod OtherProofs
 pub mod ReplaceableProofs
 pub mod LoneTexts
 pub mod SaidAlike

@@ -9,7 +9,8 @@ use Rattle.mm_base.specs.declared.statement.Kind.TheVariants.{Opening, Closing}
 use Rattle.mm_base.specs.Statement.{PlainStatement}
 use Rattle.mm_text.specs.Files.{PlainFile}
 use Rattle.mm_text.specs.Reading.{Reads}
-use Rattle.mm_text.specs.Replaced.{with_bytes}
+use Rattle.mm_text.specs.Replaced.{IsProofText, with_bytes}
+use Rattle.mm_code.specs.Words.{tokens_in}
 use Rattle.mm_frame.specs.Active.{open_marks, close_marks}
 use Rattle.mm_frame.specs.Sentence.{Sentence, sentence_of}
 use Rattle.mm_step.specs.declared.profile.Profile.{Profile}
@@ -145,11 +146,17 @@ pub record Edit : Type 0 where
 abbrev pub alone : List ℕ → List PlainFile
 alone bytes = record { name = []; bytes = bytes } ∷ []
 
--- a proof is replaced, of a theorem of the file with the number that isn't marked
+-- the text may stand in place of the statement's proof, so that nothing else is read there, and has
+-- other tokens
+abbrev pub IsOtherProof : (text : List ℕ) → PlainStatement → Type 0
+IsOtherProof text s = IsProofText text × (tokens_in text ≢ proof_of s)
+
+-- a proof is replaced by another one, of a theorem of the file with the number that isn't marked
 abbrev pub IsProofEdit : List PlainFile → List PlainStatement → (number : ℕ) → Edit → Type 0
 IsProofEdit files statements number edit =
     (s : PlainStatement) × Contains (theorems_of number statements) s
-    × ¬ (IsMarkedWith proof_mark files s) × (edit.place.span ≡ s.span) × (edit.lemmas ≡ [])
+    × ¬ (IsMarkedWith proof_mark files s) × (edit.place.span ≡ s.span)
+    × IsOtherProof edit.place.text s × (edit.lemmas ≡ [])
 
 -- Lemmas are put in between two bytes: the text is read by itself, with its comments, as they are.
 -- It holds one at least, so that no text stands where nothing is read, as inside a comment.

@@ -17,6 +17,7 @@ mod holds;
 mod judged;
 mod lemma;
 mod lone;
+mod proof_text;
 mod remarked;
 mod replaced;
 mod reply;

@@ -11,7 +11,7 @@ use Rattle.mm_render.specs.Shorter.{IsMarkedWith, proof_mark}
 use Rattle.mm_rules.specs.Verdict.{is_proof}
 use Rattle.mm_save.specs.AllSaved.{Replacement, theorems_of}
 use Rattle.mm_save.specs.Mirror.AllSaving.{AreReplacedUpTo}
-use Rattle.mm_with_lemmas.specs.WithLemmas.{AreApart, AreEdited, Edit, alone}
+use Rattle.mm_with_lemmas.specs.WithLemmas.{AreApart, AreEdited, Edit, IsOtherProof, alone}
 use Rattle.mm_with_lemmas.specs.declared.change.Change.{Change}
 use Rattle.mm_with_lemmas.specs.declared.change.Change.TheVariants.{Proof, Lemmas}
 use Rattle.mm_with_lemmas.specs.declared.lone.Put.{Put}
@@ -37,39 +37,43 @@ pub record IsEditedUpTo (source : List ℕ) (done : List Change) (taken : ℕ)
 
 -- ---- proofs
 
--- the span of a change that replaces a proof
-abbrev pub proof_span : Change → List (ℕ × ℕ)
-proof_span (Proof span text) = span ∷ []
-proof_span (Lemmas at text) = []
+-- the change, where it replaces a proof
+abbrev pub proof_in : Change → List Change
+proof_in (Proof span text) = Proof span text ∷ []
+proof_in (Lemmas at text) = []
 
--- of all of them, in their order
-abbrev pub proof_spans : List Change → List (ℕ × ℕ)
-proof_spans changes = flat_map proof_span changes
+-- of all of them those that do, in their order
+abbrev pub proofs_in : List Change → List Change
+proofs_in changes = flat_map proof_in changes
 
--- the statement is a theorem of the file with the number, its proof stands in the span, and it
--- isn't marked
-pub record IsTheoremAt (files : List PlainFile) (number : ℕ) (place : ℕ × ℕ)
+-- the statement is a theorem of the file with the number, its proof stands in the span, it isn't
+-- marked, and the text is another proof
+pub record IsTheoremAt (files : List PlainFile) (number : ℕ) (place : Replacement)
     (s : PlainStatement) : Type 0 where
   pub home : s.first.file ≡ number
-  pub span : s.span ≡ place
+  pub span : s.span ≡ place.span
   pub complete : is_proof s ≡ true
   pub unmarked : ¬ (IsMarkedWith proof_mark files s)
+  pub other : IsOtherProof place.text s
 
--- the span is that of the proof of a theorem of the file with the number that isn't marked
-abbrev pub IsReplaceable : List PlainFile → List PlainStatement → (number : ℕ) → ℕ × ℕ → Type 0
-IsReplaceable files statements number span =
+-- the span is that of the proof of a theorem of the file with the number that isn't marked, and the
+-- text is another one
+abbrev pub IsReplaceable : List PlainFile → List PlainStatement → (number : ℕ) → Replacement
+    → Type 0
+IsReplaceable files statements number place =
     (s : PlainStatement) × Contains (theorems_of number statements) s
-    × ¬ (IsMarkedWith proof_mark files s) × (span ≡ s.span)
+    × ¬ (IsMarkedWith proof_mark files s) × (place.span ≡ s.span) × IsOtherProof place.text s
 
 -- each of them is
-abbrev pub AreReplaceable : List PlainFile → List PlainStatement → (number : ℕ) → List (ℕ × ℕ)
+abbrev pub AreReplaceable : List PlainFile → List PlainStatement → (number : ℕ) → List Change
     → Type 0
-AreReplaceable files statements number spans =
-    AllByRecursion (IsReplaceable files statements number) spans
+AreReplaceable files statements number proofs =
+    AllByRecursion (λ proof. IsReplaceable files statements number (place_of proof)) proofs
 
--- a change that replaces a proof has such a span
+-- a change that replaces a proof does so
 abbrev pub IsPlaced : List PlainFile → List PlainStatement → (number : ℕ) → Change → Type 0
-IsPlaced files statements number (Proof span text) = IsReplaceable files statements number span
+IsPlaced files statements number (Proof span text) =
+    IsReplaceable files statements number (place_of (Proof span text))
 IsPlaced files statements number (Lemmas at text) = Unit {0}
 
 abbrev pub ArePlaced : List PlainFile → List PlainStatement → (number : ℕ) → List Change → Type 0

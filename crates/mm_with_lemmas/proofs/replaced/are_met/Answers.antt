@@ -15,8 +15,8 @@ loop-statement-preserved c =
       seen = inv.seen ++ s ∷ [];
       whole = inv.whole ∙ ap (λ (ss : List PlainStatement). inv.seen ++ ss) next.0
           ∙ sym (append_assoc inv.seen (s ∷ []) c.more.new.self.statements);
-      within = c.met_with-met.ensures.within;
-      each = c.met_with-met.ensures.each inv.seen inv.each;
+      within = c.in_ok-met.ensures.within;
+      each = c.in_ok-met.ensures.each inv.seen inv.each;
     }
 
 pub returns : goal.returns
@@ -24,5 +24,5 @@ returns c = λ t.
     let inv = c.loop-statement.invariant in
     let next = rw c.if-branch.false at c.in_ok-more.ensures.on in
     met_all (map plain_file c.args.files.now) c.args.number c.args.statements.now.statements inv.seen
-    c.loop-statement.statements.statements c.args.spans.now c.loop-statement.met inv.whole next.0
+    c.loop-statement.statements.statements c.args.proofs.now c.loop-statement.met inv.whole next.0
     (eqb-true c.loop-statement.met _ t) inv.each

@@ -13,5 +13,5 @@ returns c =
     IfOk-weaker c.are_met.result _ _
     (λ stand h t. stand_all c.args.checked.now c.in_ok-statements.statements
     (map plain_file c.checked.inside.files.now) c.args.number c.args.changes.now c.deref.result.now
-    same c.in_ok-statements.ensures (c.deref.ensures.value ∙ c.in_ok-spans.ensures) (h t))
+    same c.in_ok-statements.ensures (c.deref.ensures.value ∙ c.in_ok-proofs.ensures) (h t))
     c.are_met.ensures
