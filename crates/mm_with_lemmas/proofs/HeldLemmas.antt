@@ -64,13 +64,13 @@ places_made [] (edit ∷ edits) zip = absurd zip
 places_made (change ∷ changes) [] zip = absurd zip
 
 -- the file is edited so
-pub held_lemmas : (files : List PlainFile) (statements others : List PlainStatement) (number : ℕ)
-    (old bytes : List ℕ) (changes : List Change) (put : List PlainStatement)
+pub held_lemmas : (files anew : List PlainFile) (statements others : List PlainStatement)
+    (number : ℕ) (old bytes : List ℕ) (changes : List Change) (put : List PlainStatement)
     → ArePlaced files statements number changes → ArePut changes put
     → AreApart (length old) (places_of changes) → bytes ≡ with_replaced old (places_of changes)
-    → length bytes ≤ length old → AreParts files statements others put
-    → HoldsLemmas files statements others number old bytes
-held_lemmas files statements others number old bytes changes put placed (edits, zip, all) apart
+    → length bytes ≤ length old → AreParts files anew statements others put
+    → HoldsLemmas files anew statements others number old bytes
+held_lemmas files anew statements others number old bytes changes put placed (edits, zip, all) apart
     whole shorter parts =
     let places = places_made changes edits zip in
     record {

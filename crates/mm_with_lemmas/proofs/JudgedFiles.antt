@@ -2,6 +2,7 @@
 use Rattle.std.proofs.Common.{◌≡◌, ◌⊎◌, ℕ, ◌<◌, ◌≤◌, List, map, length, get_or, Option, None, Some}
 use Rattle.std.proofs.Common.{Bor, slice_get, sym, ap, subst, ◌∙◌, arith}
 use Rattle.std.specs.Prelude.{slice_set}
+use Rattle.std.specs.List.{flat_map}
 use Rattle.std.proofs.Math.ListN.{set}
 use Rattle.std.proofs.Math.Seq.{map-set}
 use Rattle.std.proofs.lemmas.List.{length-map}
@@ -15,8 +16,9 @@ use Rattle.mm_step.specs.declared.profile.Profile.TheVariants.{Lenient}
 use Rattle.mm_frame.proofs.Names.NameNumbers.{get_mapped}
 use Rattle.mm_rules.specs.Verdict.{AreAccepted}
 use Rattle.mm_verdict.proofs.FileBytes.StatementsInFiles.{with_bytes_is}
-use Rattle.mm_with_lemmas.specs.WithLemmas.{AreRemarksKept, IsThere, IsWithLemmas, MayUseNamed}
-use Rattle.mm_with_lemmas.specs.WithLemmas.{RestsOnNamed, UseLemmasAlone, UsesNamed}
+use Rattle.mm_with_lemmas.specs.WithLemmas.{AreRemarksKept, IsThere, IsWithLemmas, MayStand}
+use Rattle.mm_with_lemmas.specs.WithLemmas.{MayUseNamed, RestsOnNamed, UseLemmasAlone, UsesNamed}
+use Rattle.mm_with_lemmas.specs.WithLemmas.{new_of}
 use Rattle.mm_with_lemmas.specs.Mirror.Walking.{HoldsLemmas}
 
 -- ---- the files
@@ -51,7 +53,7 @@ pub whole_lemmas : (files anew : List PlainFile) (number : ℕ) (bytes : List �
     (statements others : List PlainStatement) → anew ≡ with_bytes files number bytes
     → AreAccepted Lenient (with_bytes files number bytes) others
     → (Reads anew others None → (file : PlainFile) × (slice_get files number ≡ Some file)
-    × HoldsLemmas files statements others number file.bytes bytes)
+    × HoldsLemmas files anew statements others number file.bytes bytes)
     → (Reads anew others None → UseLemmasAlone statements others)
     → (Reads anew others None → (label used : List ℕ) → UsesNamed others label used
     → UsesNamed statements label used ⊎ MayUseNamed anew others label used)
@@ -72,7 +74,9 @@ whole_lemmas files anew number bytes statements others same accepted holds by_le
       parts = held.parts;
       old = held.old;
       new = held.new;
-      each = held.each;
+      each = λ before after part split.
+          subst (λ (fs : List PlainFile). MayStand files fs (flat_map new_of before) part) same
+          (held.each before after part split);
       by_lemmas = by_lemmas reads;
       allowed = λ label used uses.
           subst (λ (fs : List PlainFile). UsesNamed statements label used

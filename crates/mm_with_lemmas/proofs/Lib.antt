@@ -4,6 +4,7 @@ pub mod ReplaceableProofs
 pub mod LoneTexts
 pub mod SaidAlike
 pub mod ProofsAnew
+pub mod KeptComments
 pub mod WalkedParts
 pub mod WalkedReadings
 pub mod HeldLemmas

@@ -110,19 +110,20 @@ depth_on taken s depth after is step =
 -- ---- parts
 
 -- each of the parts may stand where it does
-abbrev AreStanding : List PlainFile → List Part → Type 0
-AreStanding files parts =
+abbrev AreStanding : (files anew : List PlainFile) → List Part → Type 0
+AreStanding files anew parts =
     (before after : List Part) (part : Part) → parts ≡ before ++ part ∷ after
-    → MayStand files (flat_map new_of before) part
+    → MayStand files anew (flat_map new_of before) part
 
-standing_on : (files : List PlainFile) (parts : List Part) (p : Part) → AreStanding files parts
-    → MayStand files (flat_map new_of parts) p → AreStanding files (parts ++ p ∷ [])
-standing_on files parts p each may before after part split =
+standing_on : (files anew : List PlainFile) (parts : List Part) (p : Part)
+    → AreStanding files anew parts → MayStand files anew (flat_map new_of parts) p
+    → AreStanding files anew (parts ++ p ∷ [])
+standing_on files anew parts p each may before after part split =
     elim (last_cut parts p before part after split) [
       | inl (mid, earlier) ↦ each before mid part earlier
       | inr (same, is) ↦
-          subst (λ (q : Part). MayStand files (flat_map new_of before) q) is
-          (subst (λ (ps : List Part). MayStand files (flat_map new_of ps) p) (sym same) may)
+          subst (λ (q : Part). MayStand files anew (flat_map new_of before) q) is
+          (subst (λ (ps : List Part). MayStand files anew (flat_map new_of ps) p) (sym same) may)
     ]
 
 -- what is read of them, with one more
@@ -134,9 +135,10 @@ parts_on f parts p =
 
 -- ---- the walk
 
-pub walked_none : (files : List PlainFile) (statements put : List PlainStatement)
-    → IsWalked files statements put [] statements (record { put = 0; depth = 0; stage = Outside })
-walked_none files statements put = record {
+pub walked_none : (files anew : List PlainFile) (statements put : List PlainStatement)
+    → IsWalked files anew statements put [] statements
+    (record { put = 0; depth = 0; stage = Outside })
+walked_none files anew statements put = record {
   parts = [];
   partial = [];
   old = refl;
@@ -158,12 +160,12 @@ none_begun : (stage : Stage) → stage ≡ Outside → IsBegun stage []
 none_begun Outside is = refl
 none_begun stage is = absurd cc
 
-module _ (files : List PlainFile) (statements put taken : List PlainStatement) where
+module _ (files anew : List PlainFile) (statements put taken : List PlainStatement) where
   -- a statement that was there
   pub walked_kept : (left : List PlainStatement) (at after : Place) (o n : PlainStatement)
-      → IsWalked files statements put taken (o ∷ left) at → MeetsKept at n.kind after
-      → MayStand files taken (Kept o n)
-      → IsWalked files statements put (taken ++ n ∷ []) left after
+      → IsWalked files anew statements put taken (o ∷ left) at → MeetsKept at n.kind after
+      → MayStand files anew taken (Kept o n)
+      → IsWalked files anew statements put (taken ++ n ∷ []) left after
   walked_kept left at after o n w meets may =
       let none : w.partial ≡ [] = no_part at.stage w.partial meets.before w.begun in
       let read : taken ≡ flat_map new_of w.parts =
@@ -177,8 +179,8 @@ module _ (files : List PlainFile) (statements put taken : List PlainStatement) w
             ∙ append_assoc (flat_map old_of w.parts) (o ∷ []) left);
         new = ap (λ (ss : List PlainStatement). ss ++ n ∷ []) read
             ∙ sym (parts_on new_of w.parts (Kept o n)) ∙ sym (append-nil (flat_map new_of more));
-        each = standing_on files w.parts (Kept o n) w.each
-            (subst (λ (ss : List PlainStatement). MayStand files ss (Kept o n)) read may);
+        each = standing_on files anew w.parts (Kept o n) w.each
+            (subst (λ (ss : List PlainStatement). MayStand files anew ss (Kept o n)) read may);
         lemmas = ap (map said) (append-nil (flat_map put_of more) ∙ parts_on put_of w.parts (Kept o n))
             ∙ ap (λ (ss : List PlainStatement). map said (flat_map put_of w.parts ++ ss)) (sym none)
             ∙ w.lemmas ∙ ap (λ (k : ℕ). map said (take k put)) (sym meets.count);
@@ -189,7 +191,7 @@ module _ (files : List PlainFile) (statements put taken : List PlainStatement) w
 
   -- the lemma that is met stands outside of blocks
   stands_outside : (left : List PlainStatement) (at after : Place) (s : PlainStatement)
-      → (w : IsWalked files statements put taken left at) → MeetsPut put at s after
+      → (w : IsWalked files anew statements put taken left at) → MeetsPut put at s after
       → IsDepth (flat_map new_of w.parts) 0
   stands_outside left at after s w meets = elim w.outside [
     | inl is ↦
@@ -216,9 +218,9 @@ module _ (files : List PlainFile) (statements put taken : List PlainStatement) w
 
   -- the last statement of a lemma
   whole_next : (left : List PlainStatement) (at after : Place) (s : PlainStatement)
-      → (w : IsWalked files statements put taken left at) → MeetsPut put at s after
+      → (w : IsWalked files anew statements put taken left at) → MeetsPut put at s after
       → after.stage ≡ Outside → IsWholeLemma (w.partial ++ s ∷ [])
-      → IsWalked files statements put (taken ++ s ∷ []) left after
+      → IsWalked files anew statements put (taken ++ s ∷ []) left after
   whole_next left at after s w meets is whole =
       let lemma : List PlainStatement = w.partial ++ s ∷ [] in
       let outside = stands_outside left at after s w meets in
@@ -237,7 +239,7 @@ module _ (files : List PlainFile) (statements put taken : List PlainStatement) w
         new = ap (λ (ss : List PlainStatement). ss ++ s ∷ []) w.new
             ∙ append_assoc (flat_map new_of w.parts) w.partial (s ∷ [])
             ∙ sym (parts_on new_of w.parts (Put lemma)) ∙ sym (append-nil (flat_map new_of more));
-        each = standing_on files w.parts (Put lemma) w.each stands;
+        each = standing_on files anew w.parts (Put lemma) w.each stands;
         lemmas = ap (map said) (append-nil (flat_map put_of more) ∙ parts_on put_of w.parts (Put lemma)
             ∙ sym (append_assoc (flat_map put_of w.parts) w.partial (s ∷ [])))
             ∙ put_next at after s (flat_map put_of w.parts ++ w.partial) meets w.lemmas;
@@ -248,9 +250,9 @@ module _ (files : List PlainFile) (statements put taken : List PlainStatement) w
 
   -- another one of it
   part_next : (left : List PlainStatement) (at after : Place) (s : PlainStatement)
-      → (w : IsWalked files statements put taken left at) → MeetsPut put at s after
+      → (w : IsWalked files anew statements put taken left at) → MeetsPut put at s after
       → IsBegun after.stage (w.partial ++ s ∷ [])
-      → IsWalked files statements put (taken ++ s ∷ []) left after
+      → IsWalked files anew statements put (taken ++ s ∷ []) left after
   part_next left at after s w meets begun = record {
     parts = w.parts;
     partial = w.partial ++ s ∷ [];
@@ -267,9 +269,9 @@ module _ (files : List PlainFile) (statements put taken : List PlainStatement) w
 
   -- a statement that was put in
   grown_next : (left : List PlainStatement) (at after : Place) (s : PlainStatement) (stage : Stage)
-      → (w : IsWalked files statements put taken left at) → MeetsPut put at s after
+      → (w : IsWalked files anew statements put taken left at) → MeetsPut put at s after
       → after.stage ≡ stage → IsGrown stage (w.partial ++ s ∷ [])
-      → IsWalked files statements put (taken ++ s ∷ []) left after
+      → IsWalked files anew statements put (taken ++ s ∷ []) left after
   grown_next left at after s Outside w meets is whole =
       whole_next left at after s w meets is whole
   grown_next left at after s Conditions w meets is begun =
@@ -280,14 +282,14 @@ module _ (files : List PlainFile) (statements put taken : List PlainStatement) w
       (subst (λ (t : Stage). IsBegun t (w.partial ++ s ∷ [])) (sym is) begun)
 
   pub walked_put : (left : List PlainStatement) (at after : Place) (s : PlainStatement)
-      → IsWalked files statements put taken left at → MeetsPut put at s after
-      → IsWalked files statements put (taken ++ s ∷ []) left after
+      → IsWalked files anew statements put taken left at → MeetsPut put at s after
+      → IsWalked files anew statements put (taken ++ s ∷ []) left after
   walked_put left at after s w meets =
       grown_next left at after s after.stage w meets refl (meets.grown w.partial w.begun)
 
   -- the end
-  pub walked_all : (at : Place) → IsWalked files statements put taken [] at → at.stage ≡ Outside
-      → at.put ≡ length put → AreParts files statements taken put
+  pub walked_all : (at : Place) → IsWalked files anew statements put taken [] at
+      → at.stage ≡ Outside → at.put ≡ length put → AreParts files anew statements taken put
   walked_all at w is all =
       let none : w.partial ≡ [] = no_part at.stage w.partial is w.begun in
       record {

@@ -66,30 +66,30 @@ module _ (told : List Sentence) (all : List PlainStatement) (reading : IsToldRea
 
 -- ---- the walk
 
-module _ (files : List PlainFile) (statements put all : List PlainStatement) where
+module _ (files anew : List PlainFile) (statements put all : List PlainStatement) where
   pub on_begun : (left : Remaining) (walk : Walk) → left.statements ≡ statements
-      → IsBegunWalk left walk → IsOnWalk files statements put all all walk
+      → IsBegunWalk left walk → IsOnWalk files anew statements put all all walk
   on_begun left walk same begun = record {
     taken = [];
     whole = refl;
     count = begun.labelled;
-    walked = subst (λ (at : Place). IsWalked files statements put [] walk.left.statements at)
+    walked = subst (λ (at : Place). IsWalked files anew statements put [] walk.left.statements at)
         (sym begun.place)
-        (subst (λ (ls : List PlainStatement). IsWalked files statements put [] ls
+        (subst (λ (ls : List PlainStatement). IsWalked files anew statements put [] ls
         (record { put = 0; depth = 0; stage = Outside }))
         (sym (ap (λ (r : Remaining). r.statements) begun.left ∙ same))
-        (walked_none files statements put));
+        (walked_none files anew statements put));
   }
 
   -- over one more statement
   pub on_next : (told : List Sentence) (s : PlainStatement) (before rest : List PlainStatement)
       (old over new : Walk) → IsToldReading told all → HasForm s → before ≡ s ∷ rest
-      → IsOnWalk files statements put all before old
-      → GoesOver files told put old.labelled old.left.statements old.place s over.left.statements
-      over.place
+      → IsOnWalk files anew statements put all before old
+      → GoesOver files anew told put old.labelled old.left.statements old.place s
+      over.left.statements over.place
       → over.labelled ≡ old.labelled → new.labelled ≡ count_with over.labelled s
       → new.left ≡ over.left → new.place ≡ over.place
-      → IsOnWalk files statements put all rest new
+      → IsOnWalk files anew statements put all rest new
   on_next told s before rest old over new reading formed read h goes same count left place =
       let whole : all ≡ h.taken ++ s ∷ rest =
       h.whole ∙ ap (λ (ss : List PlainStatement). h.taken ++ ss) read in
@@ -99,22 +99,23 @@ module _ (files : List PlainFile) (statements put all : List PlainStatement) whe
         taken = h.taken ++ s ∷ [];
         whole = whole ∙ sym (append_assoc h.taken (s ∷ []) rest);
         count = count ∙ ap (λ (n : ℕ). count_with n s) (same ∙ h.count) ∙ count_on h.taken s;
-        walked = subst (λ (at : Place). IsWalked files statements put (h.taken ++ s ∷ [])
+        walked = subst (λ (at : Place). IsWalked files anew statements put (h.taken ++ s ∷ [])
             new.left.statements at) (sym place)
-            (subst (λ (r : Remaining). IsWalked files statements put (h.taken ++ s ∷ [])
+            (subst (λ (r : Remaining). IsWalked files anew statements put (h.taken ++ s ∷ [])
             r.statements over.place) (sym left) walked);
       }
 
   -- the end
   pub on_end : (walk : Walk) (rest : List PlainStatement)
-      → IsOnWalk files statements put all rest walk → rest ≡ []
-      → IsWalkedAll put walk.left.statements walk.place → AreParts files statements all put
+      → IsOnWalk files anew statements put all rest walk → rest ≡ []
+      → IsWalkedAll put walk.left.statements walk.place → AreParts files anew statements all put
   on_end walk rest h none end =
       let same : h.taken ≡ all =
       sym (h.whole ∙ ap (λ (ss : List PlainStatement). h.taken ++ ss) none ∙ append-nil h.taken) in
-      subst (λ (ss : List PlainStatement). AreParts files statements ss put) same
-      (walked_all files statements put h.taken walk.place
-      (subst (λ (ls : List PlainStatement). IsWalked files statements put h.taken ls walk.place)
+      subst (λ (ss : List PlainStatement). AreParts files anew statements ss put) same
+      (walked_all files anew statements put h.taken walk.place
+      (subst (λ (ls : List PlainStatement). IsWalked files anew statements put h.taken ls
+      walk.place)
       end.none h.walked) end.outside end.all)
 
 -- ---- of checked files
@@ -137,11 +138,11 @@ told_reading c left well unread =
 -- their parts, as they are read
 pub parts_read : (c d : Conclusion) (left more : Remaining) (put : List PlainStatement)
     → IsUnread c.files left → IsUnread d.files more
-    → AreParts c.files left.statements more.statements put
+    → AreParts c.files d.files left.statements more.statements put
     → (statements others : List PlainStatement) → Reads c.files statements None
-    → Reads d.files others None → AreParts c.files statements others put
+    → Reads d.files others None → AreParts c.files d.files statements others put
 parts_read c d left more put unread unread_too h statements others reads reads_too =
-    subst (λ (ss : List PlainStatement). AreParts c.files ss others put)
+    subst (λ (ss : List PlainStatement). AreParts c.files d.files ss others put)
     (same_reading c.files left.statements statements left.ending None unread.reads reads).0
-    (subst (λ (ss : List PlainStatement). AreParts c.files left.statements ss put)
+    (subst (λ (ss : List PlainStatement). AreParts c.files d.files left.statements ss put)
     (same_reading d.files more.statements others more.ending None unread_too.reads reads_too).0 h)

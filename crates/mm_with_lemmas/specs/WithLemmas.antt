@@ -1,14 +1,16 @@
 -- A file into which lemmas are put, beside the file as it was: what may change, and what is kept.
 -- Statements, blocks and proofs are those of the Metamath book, sections 4.2 to 4.4; which lemmas
 -- may be put in, and what proofs may do with them, is this project's own.
-use Rattle.std.specs.Prelude.{◌≡◌, ◌≢◌, ◌⊎◌, ◌↔◌, ℕ, ◌<◌, ◌≤◌, List, [], ◌∷◌, ◌++◌, map, length}
-use Rattle.std.specs.Prelude.{All, Contains, Some, None, slice_get, true}
+use Rattle.std.specs.Prelude.{◌≡◌, ◌≢◌, ◌⊎◌, ◌↔◌, ℕ, ◌+◌, ◌<◌, ◌≤◌, List, [], ◌∷◌, ◌++◌, map}
+use Rattle.std.specs.Prelude.{length, All, Contains, Some, None, slice_get, slice_range, is_some}
+use Rattle.std.specs.Prelude.{Bool, true, false, ◌||◌, codes}
 use Rattle.std.specs.List.{flat_map}
 use Rattle.mm_base.specs.declared.statement.Kind.TheVariants.{Distinct, Essential}
 use Rattle.mm_base.specs.declared.statement.Kind.TheVariants.{Opening, Closing}
 use Rattle.mm_base.specs.Statement.{PlainStatement}
 use Rattle.mm_text.specs.Files.{PlainFile}
 use Rattle.mm_text.specs.Reading.{Reads}
+use Rattle.mm_text.specs.Remarks.{IsCommentBefore, holds}
 use Rattle.mm_text.specs.Replaced.{IsProofText, with_bytes}
 use Rattle.mm_code.specs.Words.{tokens_in}
 use Rattle.mm_frame.specs.Active.{open_marks, close_marks}
@@ -17,8 +19,8 @@ use Rattle.mm_step.specs.declared.profile.Profile.{Profile}
 use Rattle.mm_proof.specs.Strict.{IsStrict}
 use Rattle.mm_rules.specs.Rests.{IsNamed, RestsOn, Uses}
 use Rattle.mm_rules.specs.Verdict.{AreAccepted, is_proof, proof_of, sentences}
-use Rattle.mm_render.specs.Shorter.{IsMarkedWith, IsUnfounded, MayUse, mathbox_of, proof_mark}
-use Rattle.mm_render.specs.Shorter.{usage_mark}
+use Rattle.mm_render.specs.Shorter.{IsMarkedWith, IsUnfounded, MayUse, home_bytes, mathbox_of}
+use Rattle.mm_render.specs.Shorter.{proof_mark, usage_mark}
 use Rattle.mm_save.specs.AllSaved.{Replacement, theorems_of, with_replaced}
 
 -- ---- what is read
@@ -79,13 +81,44 @@ pub record IsLemma (before lemma : List PlainStatement) : Type 0 where
   pub complete : is_proof theorem ≡ true
   pub alone : (lemma ≡ theorem ∷ []) ⊎ IsBlockOf theorem lemma
 
--- what a part may be, after these statements: what was there reads as it did, but perhaps for its
--- proof, and what wasn't is a lemma
-abbrev pub MayStand : List PlainFile → (before : List PlainStatement) → Part → Type 0
-MayStand files before (Kept old new) =
+-- a statement of these files may read so now, after these: as it did, but perhaps for its proof
+abbrev pub MayRead : List PlainFile → (before : List PlainStatement) → (old new : PlainStatement)
+    → Type 0
+MayRead files before old new =
     (sentence_of old ≡ sentence_of new) × (old.first.file ≡ new.first.file)
     × ((proof_of new ≡ proof_of old) ⊎ IsProvedAnew files before old new)
-MayStand files before (Put lemma) = IsLemma before lemma
+
+-- the text is the comment right before a position, from its `$(` to its `$)`
+abbrev pub IsCommentAt : (bytes : List ℕ) → (at : ℕ) → (text : List ℕ) → Type 0
+IsCommentAt bytes at text =
+    (start : ℕ) × (stop : ℕ) × IsCommentBefore bytes at start stop
+    × (text ≡ slice_range bytes start (stop + 2))
+
+-- a comment is a heading in the file, by one of the marks that those of parts, of sections and of
+-- lesser ones hold
+abbrev pub is_headline : (text : List ℕ) → Bool
+is_headline text =
+    holds (codes "####") text || holds (codes "#*#*") text || holds (codes "=-=-") text
+    || holds (codes "-.-.") text
+
+-- the text is the comment right before a position, which is no heading
+abbrev pub IsOwnCommentAt : (bytes : List ℕ) → (at : ℕ) → (text : List ℕ) → Type 0
+IsOwnCommentAt bytes at text = IsCommentAt bytes at text × (is_headline text ≡ false)
+
+-- If the statement has a label, the comment right before it, in its file, is the one that was there;
+-- or it has none, and had none. Headings don't count.
+abbrev pub IsCommentKept : (files anew : List PlainFile) → (old new : PlainStatement) → Type 0
+IsCommentKept files anew old new =
+    is_some new.label ≡ true → (text : List ℕ)
+    → IsOwnCommentAt (home_bytes files old) old.first.at text
+    ↔ IsOwnCommentAt (home_bytes anew new) new.first.at text
+
+-- what a part of the new files may be, after these statements: what was there may read so, and has
+-- its comment, and what wasn't there is a lemma
+abbrev pub MayStand : (files anew : List PlainFile) → (before : List PlainStatement) → Part → Type 0
+MayStand files anew before (Kept old new) =
+    MayRead files before old new × IsCommentKept files anew old new
+MayStand files anew before (Put lemma) = IsLemma before lemma
 
 -- ---- what proofs use
 
@@ -186,9 +219,10 @@ pub record AreEdited (files : List PlainFile) (statements : List PlainStatement)
 -- The statements are those of the files, and these are bytes of the file with the number into which
 -- lemmas are put. With them the files are accepted. All statements are there, in their order, and
 -- others are lemmas alone. A theorem that was there newly uses nothing else that was there, and so
--- lemmas alone; and whatever a theorem or a lemma newly uses it may use. What marks and mathboxes
--- said of a statement that was there they say still. No theorem that was there rests on an axiom,
--- or on an unproved theorem, on which it didn't rest. The file isn't longer.
+-- lemmas alone; and whatever a theorem or a lemma newly uses it may use. A labelled statement that was
+-- there has its comment right before it, and what marks and mathboxes said of it they say still. No
+-- theorem that was there rests on an axiom, or on an unproved theorem, on which it didn't rest. The
+-- file isn't longer.
 pub record IsWithLemmas (profile : Profile) (files : List PlainFile)
     (statements : List PlainStatement) (number : ℕ) (bytes : List ℕ) : Type 0 where
   pub file : PlainFile
@@ -199,7 +233,7 @@ pub record IsWithLemmas (profile : Profile) (files : List PlainFile)
   pub old : statements ≡ flat_map old_of parts
   pub new : others ≡ flat_map new_of parts
   pub each : (before after : List Part) (part : Part) → parts ≡ before ++ part ∷ after
-      → MayStand files (flat_map new_of before) part
+      → MayStand files (with_bytes files number bytes) (flat_map new_of before) part
   pub by_lemmas : UseLemmasAlone statements others
   pub allowed : (label used : List ℕ) → UsesNamed others label used
       → UsesNamed statements label used

@@ -1,4 +1,4 @@
-//! Whether a statement that was there may stand as it is read now.
+//! Whether a statement that was there may read as it does now.
 
 ghost use Rattle.std.specs.Prelude.{◌≡◌, List, map, true, IfOk, IsTrue};
 ghost use Rattle.mm_base.specs.Statement.{PlainStatement, plain_statement};
@@ -6,7 +6,7 @@ ghost use Rattle.mm_text.specs.Files.{plain_file};
 ghost use Rattle.mm_frame.specs.Sentence.{sentence_in};
 ghost use Rattle.mm_rules.specs.Verdict.{is_proof, proof_of, sentences};
 ghost use Rattle.mm_proof.specs.Strict.{IsStrict};
-ghost use Rattle.mm_with_lemmas.specs.WithLemmas.{IsProvedAnew, Kept, MayStand};
+ghost use Rattle.mm_with_lemmas.specs.WithLemmas.{IsProvedAnew, MayRead};
 ghost use Rattle.mm_with_lemmas.specs.Mirror.Walking.{IsNext};
 
 use crate::replaced::{is_theorem, may_be_marked};
@@ -69,7 +69,7 @@ fn is_proved_anew<'a>(
 
 /// Whether a statement of these files may read as it does now, the statement with the number in a
 /// book: it says what it said, in the same file, and has its proof, or another that it may have.
-pub(crate) fn may_stand<'a>(
+pub(crate) fn may_read<'a>(
     alloc: Global,
     files: &[File],
     book: &Book,
@@ -82,8 +82,8 @@ pub(crate) fn may_stand<'a>(
         × IsNext book.now.statements id.0 before (plain_statement new.now) }
     ensures { IfOk result (λ may. IsTrue may → (before : List PlainStatement)
         → IsNext book.now.statements id.0 before (plain_statement new.now)
-        → MayStand (map plain_file files.now) before
-        (Kept (plain_statement old.now) (plain_statement new.now))) }
+        → MayRead (map plain_file files.now) before (plain_statement old.now)
+        (plain_statement new.now)) }
 {
     if old.first.file != new.first.file || !say_the_same(old, new) {
         return Ok(false);

@@ -29,7 +29,7 @@ fn are_parts(
 ) -> Result<bool, AllocError>
     ensures { IfOk result (λ are. IsTrue are → (statements others : List PlainStatement)
         → Reads old.now.files statements None → Reads new.now.files others None
-        → AreParts old.now.files statements others (put_statements put.now)) }
+        → AreParts old.now.files new.now.files statements others (put_statements put.now)) }
 {
     let files = old.files;
     let new_files = new.files;
@@ -39,6 +39,7 @@ fn are_parts(
     let mut walk = Walk::new(alloc, left);
     let sides = Sides {
         files,
+        anew: new_files,
         book: &new.book,
         put,
         number,
@@ -61,7 +62,7 @@ fn are_parts_with<'t>(
     ensures { IfOk result (λ are. IsTrue are → (statements others : List PlainStatement)
         → Reads old.now.files statements None → Reads new.now.files others None
         → (put : List PlainStatement) × ArePut changes.now put
-        × AreParts old.now.files statements others put) }
+        × AreParts old.now.files new.now.files statements others put) }
 {
     match read_texts(alloc, new.book.seed(), changes, lone)? {
         Some(put) => {
@@ -91,7 +92,7 @@ pub(crate) fn holds_lemmas(
     ensures { IfOk result (λ holds. IsTrue holds → (statements others : List PlainStatement)
         → Reads old.now.files statements None → Reads new.now.files others None
         → (file : PlainFile) × (slice_get old.now.files number ≡ Some file)
-        × HoldsLemmas old.now.files statements others number file.bytes bytes.now) }
+        × HoldsLemmas old.now.files new.now.files statements others number file.bytes bytes.now) }
 {
     let Some(file) = old.files.get(number) else {
         return Ok(false);

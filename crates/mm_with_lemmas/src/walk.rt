@@ -9,7 +9,8 @@ ghost use Rattle.mm_with_lemmas.specs.Mirror.Editing.{put_statements};
 ghost use Rattle.mm_with_lemmas.specs.Mirror.Walking.{AreParts, GoesOver, IsBegunWalk, IsNext};
 ghost use Rattle.mm_with_lemmas.specs.Mirror.Walking.{IsToldReading, IsWalkedAll, count_with};
 
-use crate::anew::may_stand;
+use crate::anew::may_read;
+use crate::comment::is_comment_kept;
 use crate::lemma::{Place, Stage};
 use crate::lone::Put;
 use mm_base::{File, Statement};
@@ -23,7 +24,9 @@ use std::alloc::{AllocError, Global};
 pub(crate) struct Sides<'s> {
     /// The files as they were.
     pub(crate) files: &'s [File<'s>],
-    /// The book of the files with lemmas.
+    /// The files with lemmas.
+    pub(crate) anew: &'s [File<'s>],
+    /// The book of these.
     pub(crate) book: &'s Book<'s>,
     /// What is put in.
     pub(crate) put: &'s [Put<'s>],
@@ -78,9 +81,10 @@ impl<'o> Walk<'o> {
     /// Over a statement that was put in, if it may stand there.
     fn put_in(&mut self, sides: &Sides, statement: &Statement) -> bool
         ensures over { IsTrue result → GoesOver (map plain_file sides.now.files.now)
-            sides.now.book.now.statements (put_statements sides.now.put.now) self.old.labelled
-            self.old.left.statements self.old.place (plain_statement statement.now)
-            self.new.left.statements self.new.place }
+            (map plain_file sides.now.anew.now) sides.now.book.now.statements
+            (put_statements sides.now.put.now) self.old.labelled self.old.left.statements
+            self.old.place (plain_statement statement.now) self.new.left.statements
+            self.new.place }
         ensures count { self.new.labelled ≡ self.old.labelled }
     {
         match self.place.behind_put(sides.put, statement) {
@@ -104,7 +108,8 @@ impl<'o> Walk<'o> {
             × IsNext sides.now.book.now.statements self.old.labelled before
             (plain_statement statement.now) }
         ensures over { IfOk result (λ over. IsTrue over
-            → GoesOver (map plain_file sides.now.files.now) sides.now.book.now.statements
+            → GoesOver (map plain_file sides.now.files.now) (map plain_file sides.now.anew.now)
+            sides.now.book.now.statements
             (put_statements sides.now.put.now) self.old.labelled self.old.left.statements
             self.old.place (plain_statement statement.now) self.new.left.statements
             self.new.place) }
@@ -117,8 +122,11 @@ impl<'o> Walk<'o> {
             return Ok(false);
         };
         self.place = place;
+        if !is_comment_kept(sides.files, sides.anew, &self.former, statement) {
+            return Ok(false);
+        }
         let id = LabelId(self.labelled);
-        may_stand(
+        may_read(
             alloc,
             sides.files,
             sides.book,
@@ -141,7 +149,8 @@ impl<'o> Walk<'o> {
             × IsNext sides.now.book.now.statements self.old.labelled before
             (plain_statement statement.now) }
         ensures over { IfOk result (λ over. IsTrue over
-            → GoesOver (map plain_file sides.now.files.now) sides.now.book.now.statements
+            → GoesOver (map plain_file sides.now.files.now) (map plain_file sides.now.anew.now)
+            sides.now.book.now.statements
             (put_statements sides.now.put.now) self.old.labelled self.old.left.statements
             self.old.place (plain_statement statement.now) self.new.left.statements
             self.new.place) }
@@ -189,6 +198,7 @@ impl<'o> Walk<'o> {
         requires begun { IsBegunWalk self.old.left self.old }
         requires told { IsToldReading sides.now.book.now.statements statements.old.statements }
         ensures { IfOk result (λ over. IsTrue over → AreParts (map plain_file sides.now.files.now)
+            (map plain_file sides.now.anew.now)
             self.old.left.statements statements.old.statements
             (put_statements sides.now.put.now)) }
     {

@@ -26,25 +26,25 @@ use Rattle.mm_with_lemmas.specs.declared.walk.Walk.{Walk}
 
 -- The old statements, and those of the files with lemmas, part by part: each may stand where it
 -- does, and the lemmas say what was put.
-pub record AreParts (files : List PlainFile)
+pub record AreParts (files anew : List PlainFile)
     (statements others put : List PlainStatement) : Type 0 where
   pub parts : List Part
   pub old : statements ≡ flat_map old_of parts
   pub new : others ≡ flat_map new_of parts
   pub each : (before after : List Part) (part : Part) → parts ≡ before ++ part ∷ after
-      → MayStand files (flat_map new_of before) part
+      → MayStand files anew (flat_map new_of before) part
   pub lemmas : map said put ≡ map said (flat_map put_of parts)
 
 -- The statements are those of the files, the others those of the files with these bytes in place
 -- of those that the file with the number had: the file has lemmas and new proofs that may stand
 -- there.
-pub record HoldsLemmas (files : List PlainFile) (statements others : List PlainStatement)
+pub record HoldsLemmas (files anew : List PlainFile) (statements others : List PlainStatement)
     (number : ℕ) (old_bytes bytes : List ℕ) : Type 0 where
   pub parts : List Part
   pub old : statements ≡ flat_map old_of parts
   pub new : others ≡ flat_map new_of parts
   pub each : (before after : List Part) (part : Part) → parts ≡ before ++ part ∷ after
-      → MayStand files (flat_map new_of before) part
+      → MayStand files anew (flat_map new_of before) part
   pub edited : AreEdited files statements number old_bytes bytes (flat_map put_of parts)
   pub no_longer : length bytes ≤ length old_bytes
 
@@ -137,27 +137,27 @@ count_with labelled s = labelled + (if is_some s.label then 1 else 0)
 
 -- These statements of the files with lemmas were met, and the old ones but for those that are
 -- left: part by part, and perhaps the beginning of a lemma.
-pub record IsWalked (files : List PlainFile) (statements put taken left : List PlainStatement)
+pub record IsWalked (files anew : List PlainFile) (statements put taken left : List PlainStatement)
     (at : Place) : Type 0 where
   pub parts : List Part
   pub partial : List PlainStatement
   pub old : statements ≡ flat_map old_of parts ++ left
   pub new : taken ≡ flat_map new_of parts ++ partial
   pub each : (before after : List Part) (part : Part) → parts ≡ before ++ part ∷ after
-      → MayStand files (flat_map new_of before) part
+      → MayStand files anew (flat_map new_of before) part
   pub lemmas : map said (flat_map put_of parts ++ partial) ≡ map said (take at.put put)
   pub begun : IsBegun at.stage partial
   pub outside : (at.stage ≡ Outside) ⊎ IsDepth (flat_map new_of parts) 0
   pub depth : IsDepth taken at.depth
 
 -- a walk goes on over one more statement of the files with lemmas
-abbrev pub GoesOver : List PlainFile → (told : List Sentence) → (put : List PlainStatement)
-    → (id : ℕ) → (left : List PlainStatement) → Place → PlainStatement
+abbrev pub GoesOver : (files anew : List PlainFile) → (told : List Sentence)
+    → (put : List PlainStatement) → (id : ℕ) → (left : List PlainStatement) → Place → PlainStatement
     → (left_after : List PlainStatement) → Place → Type 0
-GoesOver files told put id left at s left_after after =
+GoesOver files anew told put id left at s left_after after =
     (statements taken : List PlainStatement) → IsNext told id taken s
-    → IsWalked files statements put taken left at
-    → IsWalked files statements put (taken ++ s ∷ []) left_after after
+    → IsWalked files anew statements put taken left at
+    → IsWalked files anew statements put (taken ++ s ∷ []) left_after after
 
 -- nothing was met yet, and these statements are left
 pub record IsBegunWalk (all : Remaining) (walk : Walk) : Type 0 where
@@ -182,9 +182,9 @@ pub record IsWalkedAll (put left : List PlainStatement) (at : Place) : Type 0 wh
   pub all : at.put ≡ length put
 
 -- these of all statements are left, and over the others the walk has gone
-pub record IsOnWalk (files : List PlainFile) (statements put all rest : List PlainStatement)
+pub record IsOnWalk (files anew : List PlainFile) (statements put all rest : List PlainStatement)
     (walk : Walk) : Type 0 where
   pub taken : List PlainStatement
   pub whole : all ≡ taken ++ rest
   pub count : walk.labelled ≡ label_count taken
-  pub walked : IsWalked files statements put taken walk.left.statements walk.place
+  pub walked : IsWalked files anew statements put taken walk.left.statements walk.place

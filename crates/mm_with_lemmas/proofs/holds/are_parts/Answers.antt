@@ -47,8 +47,11 @@ returns c =
     IfOk-weaker c.goes_over_all.result _ _
     (λ over h t. parts_read old new c.in_ok-left.left c.in_ok-statements.statements put unread
     unread_too
-    (subst (λ (fs : List PlainFile). AreParts fs c.in_ok-left.left.statements
+    (subst (λ (fs : List PlainFile). AreParts fs new.files c.in_ok-left.left.statements
     c.in_ok-statements.statements.statements put) files
-    (subst (λ (r : Remaining). AreParts (map plain_file c.old.inside.files.now) r.statements
-    c.in_ok-statements.statements.statements put) c.new-walk.ensures.left (h t))))
+    (subst (λ (fs : List PlainFile). AreParts (map plain_file c.old.inside.files.now) fs
+    c.in_ok-left.left.statements c.in_ok-statements.statements.statements put) new_files
+    (subst (λ (r : Remaining). AreParts (map plain_file c.old.inside.files.now)
+    (map plain_file c.new.inside.files.now) r.statements
+    c.in_ok-statements.statements.statements put) c.new-walk.ensures.left (h t)))))
     c.goes_over_all.ensures

@@ -26,8 +26,8 @@ returns c =
     let (put, is, parts) = h t statements others reads reads_too in (
       file,
       there,
-      held_lemmas old.files statements others c.args.number file.bytes c.args.bytes.now
-          c.args.changes.now put
+      held_lemmas old.files c.args.new.now.files statements others c.args.number file.bytes
+          c.args.bytes.now c.args.changes.now put
           (c.in_ok-proofs_stand.ensures c.if-not-branch.false statements reads) is
           (c.are_edited.ensures.apart c.if-not-are_edited.false)
           (c.are_edited.ensures.whole c.if-not-are_edited.false)

@@ -9,7 +9,8 @@ use Rattle.mm_with_lemmas.proofs.walk.Walk.goes_over_all.Goals as goal
 
 pub loop-statement-init : goal.loop-statement-init
 loop-statement-init c =
-    on_begun (map plain_file c.args.sides.now.files.now) c.args.self.now.left.statements
+    on_begun (map plain_file c.args.sides.now.files.now)
+    (map plain_file c.args.sides.now.anew.now) c.args.self.now.left.statements
     (put_statements c.args.sides.now.put.now) c.args.statements.now.statements
     c.args.self.now.left c.args.self.now refl c.requires.begun
 
@@ -39,7 +40,8 @@ pub loop-statement-preserved : goal.loop-statement-preserved
 loop-statement-preserved c =
     let read = rw c.if-branch.true at c.in_ok-more.ensures.on in
     let formed = c.in_ok-more.ensures.formed (rw c.if-branch.true refl) in
-    on_next (map plain_file c.args.sides.now.files.now) c.args.self.now.left.statements
+    on_next (map plain_file c.args.sides.now.files.now)
+    (map plain_file c.args.sides.now.anew.now) c.args.self.now.left.statements
     (put_statements c.args.sides.now.put.now) c.args.statements.now.statements
     c.args.sides.now.book.now.statements (plain_statement c.more.new.into)
     c.loop-statement.statements.statements c.more.new.self.statements c.loop-statement.self
@@ -52,6 +54,7 @@ returns c =
     let read = rw c.if-branch.false at c.in_ok-more.ensures.on in
     IfOk-weaker c.is_over.result _ _
     (λ over h t. on_end (map plain_file c.args.sides.now.files.now)
+    (map plain_file c.args.sides.now.anew.now)
     c.args.self.now.left.statements (put_statements c.args.sides.now.put.now)
     c.args.statements.now.statements c.loop-statement.self c.loop-statement.statements.statements
     c.loop-statement.invariant read.0 (h t))
