@@ -18,14 +18,14 @@ use Rattle.mm_frame.specs.Sentence.{Sentence, sentence_of}
 use Rattle.mm_frame.proofs.Blocks.NumberedBlocks.{closings-append, closings_one}
 use Rattle.mm_frame.proofs.Blocks.NumberedBlocks.{openings-append, openings_one}
 use Rattle.mm_rules.specs.Verdict.{is_proof, sentences}
-use Rattle.mm_with_lemmas.specs.WithLemmas.{IsCondition, IsLemma, Kept, MayStand, Part, Put, new_of, old_of}
-use Rattle.mm_with_lemmas.specs.WithLemmas.{put_of, said}
+use Rattle.mm_with_lemmas.specs.WithLemmas.{IsCondition, IsLemma, IsStrictAfter, Kept, MayStand}
+use Rattle.mm_with_lemmas.specs.WithLemmas.{Part, Put, new_of, old_of, put_of, said}
 use Rattle.mm_with_lemmas.specs.declared.lemma.Place.{Place}
 use Rattle.mm_with_lemmas.specs.declared.lemma.Stage.{Stage}
 use Rattle.mm_with_lemmas.specs.declared.lemma.Stage.TheVariants.{Outside, Conditions, Proved}
 use Rattle.mm_with_lemmas.specs.Mirror.Walking.{AreParts, IsBegun, IsBlockBegun, IsBlockProved}
-use Rattle.mm_with_lemmas.specs.Mirror.Walking.{IsDepth, IsDepthAfter, IsGrown, IsWalked}
-use Rattle.mm_with_lemmas.specs.Mirror.Walking.{IsWholeLemma, MeetsKept, MeetsPut}
+use Rattle.mm_with_lemmas.specs.Mirror.Walking.{IsDepth, IsDepthAfter, IsGrown, IsStrictIfProved}
+use Rattle.mm_with_lemmas.specs.Mirror.Walking.{IsWalked, IsWholeLemma, MeetsKept, MeetsPut}
 
 -- ---- a lemma on its way
 
@@ -51,9 +51,10 @@ block_on partial s condition b = record {
 }
 
 -- with its theorem
-pub block_proved : (partial : List PlainStatement) (s : PlainStatement) → is_proof s ≡ true
-    → IsBlockBegun partial → IsBlockProved (partial ++ s ∷ [])
-block_proved partial s complete b = record {
+pub block_proved : (before partial : List PlainStatement) (s : PlainStatement)
+    → is_proof s ≡ true → IsStrictIfProved (before ++ partial) s → IsBlockBegun partial
+    → IsBlockProved before (partial ++ s ∷ [])
+block_proved before partial s complete strict b = record {
   theorem = s;
   complete = complete;
   opening = b.opening;
@@ -61,12 +62,14 @@ block_proved partial s complete b = record {
   whole = ap (λ (ss : List PlainStatement). ss ++ s ∷ []) b.whole;
   opens = b.opens;
   each = b.each;
+  strict = subst (λ (ss : List PlainStatement). IsStrictAfter (before ++ ss) s) b.whole
+      (strict complete);
 }
 
 -- and closed
-pub block_closed : (partial : List PlainStatement) (s : PlainStatement) → s.kind ≡ Closing
-    → IsBlockProved partial → IsWholeLemma (partial ++ s ∷ [])
-block_closed partial s closes b = record {
+pub block_closed : (before partial : List PlainStatement) (s : PlainStatement) → s.kind ≡ Closing
+    → IsBlockProved before partial → IsWholeLemma before (partial ++ s ∷ [])
+block_closed before partial s closes b = record {
   theorem = b.theorem;
   complete = b.complete;
   alone = inr (record {
@@ -78,12 +81,18 @@ block_closed partial s closes b = record {
     opens = b.opens;
     each = b.each;
     closes = closes;
+    strict = b.strict;
   });
 }
 
 -- a theorem alone
-pub theorem_alone : (s : PlainStatement) → is_proof s ≡ true → IsWholeLemma (s ∷ [])
-theorem_alone s complete = record { theorem = s; complete = complete; alone = inl refl }
+pub theorem_alone : (before : List PlainStatement) (s : PlainStatement) → is_proof s ≡ true
+    → IsStrictIfProved before s → IsWholeLemma before (s ∷ [])
+theorem_alone before s complete strict = record {
+  theorem = s;
+  complete = complete;
+  alone = inl (refl, strict complete);
+}
 
 -- ---- blocks
 
@@ -151,14 +160,15 @@ walked_none files anew statements put = record {
 }
 
 -- outside of lemmas nothing of one was met
-no_part : (stage : Stage) (partial : List PlainStatement) → stage ≡ Outside → IsBegun stage partial
-    → partial ≡ []
-no_part Outside partial is none = none
-no_part stage partial is begun = absurd cc
+no_part : (stage : Stage) (before partial : List PlainStatement) → stage ≡ Outside
+    → IsBegun stage before partial → partial ≡ []
+no_part Outside before partial is none = none
+no_part stage before partial is begun = absurd cc
 
-none_begun : (stage : Stage) → stage ≡ Outside → IsBegun stage []
-none_begun Outside is = refl
-none_begun stage is = absurd cc
+none_begun : (stage : Stage) (before : List PlainStatement) → stage ≡ Outside
+    → IsBegun stage before []
+none_begun Outside before is = refl
+none_begun stage before is = absurd cc
 
 module _ (files anew : List PlainFile) (statements put taken : List PlainStatement) where
   -- a statement that was there
@@ -167,7 +177,8 @@ module _ (files anew : List PlainFile) (statements put taken : List PlainStateme
       → MayStand files anew taken (Kept o n)
       → IsWalked files anew statements put (taken ++ n ∷ []) left after
   walked_kept left at after o n w meets may =
-      let none : w.partial ≡ [] = no_part at.stage w.partial meets.before w.begun in
+      let none : w.partial ≡ [] =
+      no_part at.stage (flat_map new_of w.parts) w.partial meets.before w.begun in
       let read : taken ≡ flat_map new_of w.parts =
       w.new ∙ ap (λ (ss : List PlainStatement). flat_map new_of w.parts ++ ss) none
       ∙ append-nil (flat_map new_of w.parts) in
@@ -184,7 +195,7 @@ module _ (files anew : List PlainFile) (statements put taken : List PlainStateme
         lemmas = ap (map said) (append-nil (flat_map put_of more) ∙ parts_on put_of w.parts (Kept o n))
             ∙ ap (λ (ss : List PlainStatement). map said (flat_map put_of w.parts ++ ss)) (sym none)
             ∙ w.lemmas ∙ ap (λ (k : ℕ). map said (take k put)) (sym meets.count);
-        begun = none_begun after.stage meets.after;
+        begun = none_begun after.stage (flat_map new_of more) meets.after;
         outside = inl meets.after;
         depth = depth_on taken n at.depth after.depth w.depth meets.depth;
       }
@@ -195,7 +206,8 @@ module _ (files anew : List PlainFile) (statements put taken : List PlainStateme
       → IsDepth (flat_map new_of w.parts) 0
   stands_outside left at after s w meets = elim w.outside [
     | inl is ↦
-        let none : w.partial ≡ [] = no_part at.stage w.partial is w.begun in
+        let none : w.partial ≡ [] =
+        no_part at.stage (flat_map new_of w.parts) w.partial is w.begun in
         let read : taken ≡ flat_map new_of w.parts =
         w.new ∙ ap (λ (ss : List PlainStatement). flat_map new_of w.parts ++ ss) none
         ∙ append-nil (flat_map new_of w.parts) in
@@ -219,7 +231,7 @@ module _ (files anew : List PlainFile) (statements put taken : List PlainStateme
   -- the last statement of a lemma
   whole_next : (left : List PlainStatement) (at after : Place) (s : PlainStatement)
       → (w : IsWalked files anew statements put taken left at) → MeetsPut put at s after
-      → after.stage ≡ Outside → IsWholeLemma (w.partial ++ s ∷ [])
+      → after.stage ≡ Outside → IsWholeLemma (flat_map new_of w.parts) (w.partial ++ s ∷ [])
       → IsWalked files anew statements put (taken ++ s ∷ []) left after
   whole_next left at after s w meets is whole =
       let lemma : List PlainStatement = w.partial ++ s ∷ [] in
@@ -243,7 +255,7 @@ module _ (files anew : List PlainFile) (statements put taken : List PlainStateme
         lemmas = ap (map said) (append-nil (flat_map put_of more) ∙ parts_on put_of w.parts (Put lemma)
             ∙ sym (append_assoc (flat_map put_of w.parts) w.partial (s ∷ [])))
             ∙ put_next at after s (flat_map put_of w.parts ++ w.partial) meets w.lemmas;
-        begun = none_begun after.stage is;
+        begun = none_begun after.stage (flat_map new_of more) is;
         outside = inl is;
         depth = depth_on taken s at.depth after.depth w.depth meets.depth;
       }
@@ -251,7 +263,7 @@ module _ (files anew : List PlainFile) (statements put taken : List PlainStateme
   -- another one of it
   part_next : (left : List PlainStatement) (at after : Place) (s : PlainStatement)
       → (w : IsWalked files anew statements put taken left at) → MeetsPut put at s after
-      → IsBegun after.stage (w.partial ++ s ∷ [])
+      → IsBegun after.stage (flat_map new_of w.parts) (w.partial ++ s ∷ [])
       → IsWalked files anew statements put (taken ++ s ∷ []) left after
   part_next left at after s w meets begun = record {
     parts = w.parts;
@@ -270,28 +282,32 @@ module _ (files anew : List PlainFile) (statements put taken : List PlainStateme
   -- a statement that was put in
   grown_next : (left : List PlainStatement) (at after : Place) (s : PlainStatement) (stage : Stage)
       → (w : IsWalked files anew statements put taken left at) → MeetsPut put at s after
-      → after.stage ≡ stage → IsGrown stage (w.partial ++ s ∷ [])
+      → after.stage ≡ stage → IsGrown stage (flat_map new_of w.parts) (w.partial ++ s ∷ [])
       → IsWalked files anew statements put (taken ++ s ∷ []) left after
   grown_next left at after s Outside w meets is whole =
       whole_next left at after s w meets is whole
   grown_next left at after s Conditions w meets is begun =
       part_next left at after s w meets
-      (subst (λ (t : Stage). IsBegun t (w.partial ++ s ∷ [])) (sym is) begun)
+      (subst (λ (t : Stage). IsBegun t (flat_map new_of w.parts) (w.partial ++ s ∷ [])) (sym is)
+      begun)
   grown_next left at after s Proved w meets is begun =
       part_next left at after s w meets
-      (subst (λ (t : Stage). IsBegun t (w.partial ++ s ∷ [])) (sym is) begun)
+      (subst (λ (t : Stage). IsBegun t (flat_map new_of w.parts) (w.partial ++ s ∷ [])) (sym is)
+      begun)
 
   pub walked_put : (left : List PlainStatement) (at after : Place) (s : PlainStatement)
-      → IsWalked files anew statements put taken left at → MeetsPut put at s after
-      → IsWalked files anew statements put (taken ++ s ∷ []) left after
-  walked_put left at after s w meets =
-      grown_next left at after s after.stage w meets refl (meets.grown w.partial w.begun)
+      → IsStrictIfProved taken s → IsWalked files anew statements put taken left at
+      → MeetsPut put at s after → IsWalked files anew statements put (taken ++ s ∷ []) left after
+  walked_put left at after s strict w meets =
+      let read = subst (λ (ss : List PlainStatement). IsStrictIfProved ss s) w.new strict in
+      grown_next left at after s after.stage w meets refl
+      (meets.grown (flat_map new_of w.parts) w.partial read w.begun)
 
   -- the end
   pub walked_all : (at : Place) → IsWalked files anew statements put taken [] at
       → at.stage ≡ Outside → at.put ≡ length put → AreParts files anew statements taken put
   walked_all at w is all =
-      let none : w.partial ≡ [] = no_part at.stage w.partial is w.begun in
+      let none : w.partial ≡ [] = no_part at.stage (flat_map new_of w.parts) w.partial is w.begun in
       record {
         parts = w.parts;
         old = w.old ∙ append-nil (flat_map old_of w.parts);

@@ -63,8 +63,15 @@ pub record IsProvedAnew (files : List PlainFile) (before : List PlainStatement)
 abbrev pub IsCondition : PlainStatement → Type 0
 IsCondition s = (s.kind ≡ Distinct) ⊎ (s.kind ≡ Essential)
 
--- the theorem stands in a block with such statements before it, and nothing behind it
-pub record IsBlockOf (theorem : PlainStatement) (block : List PlainStatement) : Type 0 where
+-- the proof of the theorem is strict, after these statements
+abbrev pub IsStrictAfter : (before : List PlainStatement) → (theorem : PlainStatement) → Type 0
+IsStrictAfter before theorem =
+    IsStrict (sentences before) (sentence_of theorem) (proof_of theorem)
+
+-- the theorem stands in a block after these statements, with such ones before it and nothing behind
+-- it, and its proof is strict
+pub record IsBlockOf (before : List PlainStatement) (theorem : PlainStatement)
+    (block : List PlainStatement) : Type 0 where
   pub opening : PlainStatement
   pub conditions : List PlainStatement
   pub closing : PlainStatement
@@ -72,14 +79,16 @@ pub record IsBlockOf (theorem : PlainStatement) (block : List PlainStatement) : 
   pub opens : opening.kind ≡ Opening
   pub each : All IsCondition conditions
   pub closes : closing.kind ≡ Closing
+  pub strict : IsStrictAfter (before ++ opening ∷ conditions) theorem
 
--- a lemma, after these statements: a theorem with a complete proof, alone or in a block of its own,
--- outside of all other blocks
+-- a lemma, after these statements: a theorem with a complete and strict proof, alone or in a block
+-- of its own, outside of all other blocks
 pub record IsLemma (before lemma : List PlainStatement) : Type 0 where
   pub outside : open_marks (sentences before) ≡ close_marks (sentences before)
   pub theorem : PlainStatement
   pub complete : is_proof theorem ≡ true
-  pub alone : (lemma ≡ theorem ∷ []) ⊎ IsBlockOf theorem lemma
+  pub alone : ((lemma ≡ theorem ∷ []) × IsStrictAfter before theorem)
+      ⊎ IsBlockOf before theorem lemma
 
 -- a statement of these files may read so now, after these: as it did, but perhaps for its proof
 abbrev pub MayRead : List PlainFile → (before : List PlainStatement) → (old new : PlainStatement)

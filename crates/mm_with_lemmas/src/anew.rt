@@ -7,7 +7,7 @@ ghost use Rattle.mm_frame.specs.Sentence.{sentence_in};
 ghost use Rattle.mm_rules.specs.Verdict.{is_proof, proof_of, sentences};
 ghost use Rattle.mm_proof.specs.Strict.{IsStrict};
 ghost use Rattle.mm_with_lemmas.specs.WithLemmas.{IsProvedAnew, MayRead};
-ghost use Rattle.mm_with_lemmas.specs.Mirror.Walking.{IsNext};
+ghost use Rattle.mm_with_lemmas.specs.Mirror.Walking.{IsNext, IsStrictIfProved};
 
 use crate::replaced::{is_theorem, may_be_marked};
 use crate::said::{have_one_proof, say_the_same};
@@ -41,6 +41,27 @@ fn is_strict<'a>(
         Err(ProofFault::Rule { .. }) => Ok(false),
         Err(ProofFault::Memory) => Err(AllocError),
     }
+}
+
+/// Whether the proof of a statement, the one with the number in a book, is strict, if it is the
+/// complete one of a theorem.
+pub(crate) fn is_strict_if_proved<'a>(
+    alloc: Global,
+    book: &Book,
+    reader: &mut StepsReader<'a>,
+    id: LabelId,
+    statement: &Statement<'a>,
+) -> Result<bool, AllocError>
+    requires { (before : List PlainStatement)
+        × IsNext book.now.statements id.0 before (plain_statement statement.now) }
+    ensures { IfOk result (λ strict. IsTrue strict → (before : List PlainStatement)
+        → IsNext book.now.statements id.0 before (plain_statement statement.now)
+        → IsStrictIfProved before (plain_statement statement.now)) }
+{
+    if !is_theorem(statement) {
+        return Ok(true);
+    }
+    is_strict(alloc, book, reader, id, statement)
 }
 
 /// Whether a theorem of these files has another proof now: it isn't marked to stay as it is, and

@@ -5,7 +5,8 @@ ghost use Rattle.std.specs.Prelude.{◌≡◌, ◌++◌, ◌∷◌, [], List, If
 ghost use Rattle.mm_base.specs.Statement.{PlainStatement, plain_statement};
 ghost use Rattle.mm_with_lemmas.specs.Mirror.Editing.{put_statements};
 ghost use Rattle.mm_with_lemmas.specs.Mirror.Walking.{IsBegun, IsBlockBegun, IsBlockProved};
-ghost use Rattle.mm_with_lemmas.specs.Mirror.Walking.{IsDepthAfter, IsGrown, MeetsKept, MeetsPut};
+ghost use Rattle.mm_with_lemmas.specs.Mirror.Walking.{IsDepthAfter, IsGrown, IsStrictIfProved};
+ghost use Rattle.mm_with_lemmas.specs.Mirror.Walking.{MeetsKept, MeetsPut};
 
 use crate::lone::Put;
 use crate::replaced::is_theorem;
@@ -48,7 +49,9 @@ fn depth_after(depth: usize, kind: Kind) -> Option<usize>
 
 /// How much of a lemma a statement is that begins one; none where it begins none.
 fn begun_by(statement: &Statement) -> Option<Stage>
-    ensures { IfSome result (λ next. IsGrown next (plain_statement statement.now ∷ [])) }
+    ensures { IfSome result (λ next. (before : List PlainStatement)
+        → IsStrictIfProved before (plain_statement statement.now)
+        → IsGrown next before (plain_statement statement.now ∷ [])) }
 {
     if is_theorem(statement) {
         return Some(Stage::Outside);
@@ -62,8 +65,10 @@ fn begun_by(statement: &Statement) -> Option<Stage>
 /// How much of a lemma was met with a statement behind its conditions; none where it has no place
 /// there.
 fn behind_conditions(statement: &Statement) -> Option<Stage>
-    ensures { IfSome result (λ next. (partial : List PlainStatement) → IsBlockBegun partial
-        → IsGrown next (partial ++ plain_statement statement.now ∷ [])) }
+    ensures { IfSome result (λ next. (before partial : List PlainStatement)
+        → IsStrictIfProved (before ++ partial) (plain_statement statement.now)
+        → IsBlockBegun partial
+        → IsGrown next before (partial ++ plain_statement statement.now ∷ [])) }
 {
     if is_theorem(statement) {
         return Some(Stage::Proved);
@@ -77,8 +82,9 @@ fn behind_conditions(statement: &Statement) -> Option<Stage>
 /// How much of a lemma was met with a statement behind its theorem; none where it has no place
 /// there.
 fn behind_theorem(statement: &Statement) -> Option<Stage>
-    ensures { IfSome result (λ next. (partial : List PlainStatement) → IsBlockProved partial
-        → IsGrown next (partial ++ plain_statement statement.now ∷ [])) }
+    ensures { IfSome result (λ next. (before partial : List PlainStatement)
+        → IsBlockProved before partial
+        → IsGrown next before (partial ++ plain_statement statement.now ∷ [])) }
 {
     match statement.kind {
         Kind::Closing => Some(Stage::Outside),
@@ -89,8 +95,10 @@ fn behind_theorem(statement: &Statement) -> Option<Stage>
 /// How much of a lemma was met with one more statement, where so much was met before it and so
 /// many blocks are open; none where the statement has no place there.
 fn stage_after(stage: Stage, depth: usize, statement: &Statement) -> Option<Stage>
-    ensures grown { IfSome result (λ next. (partial : List PlainStatement) → IsBegun stage partial
-        → IsGrown next (partial ++ plain_statement statement.now ∷ [])) }
+    ensures grown { IfSome result (λ next. (before partial : List PlainStatement)
+        → IsStrictIfProved (before ++ partial) (plain_statement statement.now)
+        → IsBegun stage before partial
+        → IsGrown next before (partial ++ plain_statement statement.now ∷ [])) }
     ensures outside { IfSome result (λ next. stage ≡ Stage.Outside → depth ≡ 0) }
 {
     match stage {

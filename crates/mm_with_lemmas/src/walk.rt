@@ -9,7 +9,7 @@ ghost use Rattle.mm_with_lemmas.specs.Mirror.Editing.{put_statements};
 ghost use Rattle.mm_with_lemmas.specs.Mirror.Walking.{AreParts, GoesOver, IsBegunWalk, IsNext};
 ghost use Rattle.mm_with_lemmas.specs.Mirror.Walking.{IsToldReading, IsWalkedAll, count_with};
 
-use crate::anew::may_read;
+use crate::anew::{is_strict_if_proved, may_read};
 use crate::comment::is_comment_kept;
 use crate::lemma::{Place, Stage};
 use crate::lone::Put;
@@ -79,21 +79,32 @@ impl<'o> Walk<'o> {
     }
 
     /// Over a statement that was put in, if it may stand there.
-    fn put_in(&mut self, sides: &Sides, statement: &Statement) -> bool
-        ensures over { IsTrue result → GoesOver (map plain_file sides.now.files.now)
-            (map plain_file sides.now.anew.now) sides.now.book.now.statements
-            (put_statements sides.now.put.now) self.old.labelled self.old.left.statements
-            self.old.place (plain_statement statement.now) self.new.left.statements
-            self.new.place }
+    fn put_in<'a>(
+        &mut self,
+        alloc: Global,
+        sides: &Sides,
+        reader: &mut StepsReader<'a>,
+        statement: &Statement<'a>,
+    ) -> Result<bool, AllocError>
+        requires { (before : List PlainStatement)
+            × IsNext sides.now.book.now.statements self.old.labelled before
+            (plain_statement statement.now) }
+        ensures over { IfOk result (λ over. IsTrue over
+            → GoesOver (map plain_file sides.now.files.now) (map plain_file sides.now.anew.now)
+            sides.now.book.now.statements (put_statements sides.now.put.now) self.old.labelled
+            self.old.left.statements self.old.place (plain_statement statement.now)
+            self.new.left.statements self.new.place) }
         ensures count { self.new.labelled ≡ self.old.labelled }
     {
-        match self.place.behind_put(sides.put, statement) {
-            Some(place) => {
-                self.place = place;
-                true
-            }
-            None => false,
+        let id = LabelId(self.labelled);
+        if !is_strict_if_proved(alloc, sides.book, reader, id, statement)? {
+            return Ok(false);
         }
+        let Some(place) = self.place.behind_put(sides.put, statement) else {
+            return Ok(false);
+        };
+        self.place = place;
+        Ok(true)
     }
 
     /// Over a statement that was there, if it may stand there.
@@ -157,7 +168,7 @@ impl<'o> Walk<'o> {
         ensures count { self.new.labelled ≡ self.old.labelled }
     {
         if self.expects_put(sides, statement) {
-            return Ok(self.put_in(sides, statement));
+            return self.put_in(alloc, sides, reader, statement);
         }
         self.keep(alloc, sides, reader, statement)
     }

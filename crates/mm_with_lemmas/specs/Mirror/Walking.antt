@@ -15,8 +15,8 @@ use Rattle.mm_frame.specs.Active.{open_marks, close_marks}
 use Rattle.mm_frame.specs.Sentence.{Sentence}
 use Rattle.mm_rules.specs.Verdict.{CanBeRead, is_proof, proof_of, sentences}
 use Rattle.mm_verdict.specs.Mirror.Rereading.{label_count}
-use Rattle.mm_with_lemmas.specs.WithLemmas.{AreEdited, IsBlockOf, IsCondition, MayStand, Part}
-use Rattle.mm_with_lemmas.specs.WithLemmas.{new_of, old_of, put_of, said}
+use Rattle.mm_with_lemmas.specs.WithLemmas.{AreEdited, IsBlockOf, IsCondition, IsStrictAfter}
+use Rattle.mm_with_lemmas.specs.WithLemmas.{MayStand, Part, new_of, old_of, put_of, said}
 use Rattle.mm_with_lemmas.specs.declared.lemma.Stage.{Stage}
 use Rattle.mm_with_lemmas.specs.declared.lemma.Stage.TheVariants.{Outside, Conditions, Proved}
 use Rattle.mm_with_lemmas.specs.declared.lemma.Place.{Place}
@@ -70,8 +70,8 @@ pub record IsBlockBegun (partial : List PlainStatement) : Type 0 where
   pub opens : opening.kind ≡ Opening
   pub each : All IsCondition conditions
 
--- its block but for the end
-pub record IsBlockProved (partial : List PlainStatement) : Type 0 where
+-- its block but for the end, after these statements
+pub record IsBlockProved (before partial : List PlainStatement) : Type 0 where
   pub theorem : PlainStatement
   pub complete : is_proof theorem ≡ true
   pub opening : PlainStatement
@@ -79,24 +79,30 @@ pub record IsBlockProved (partial : List PlainStatement) : Type 0 where
   pub whole : partial ≡ opening ∷ conditions ++ theorem ∷ []
   pub opens : opening.kind ≡ Opening
   pub each : All IsCondition conditions
+  pub strict : IsStrictAfter (before ++ opening ∷ conditions) theorem
 
--- all of it
-pub record IsWholeLemma (lemma : List PlainStatement) : Type 0 where
+-- all of it, after these statements
+pub record IsWholeLemma (before lemma : List PlainStatement) : Type 0 where
   pub theorem : PlainStatement
   pub complete : is_proof theorem ≡ true
-  pub alone : (lemma ≡ theorem ∷ []) ⊎ IsBlockOf theorem lemma
+  pub alone : ((lemma ≡ theorem ∷ []) × IsStrictAfter before theorem)
+      ⊎ IsBlockOf before theorem lemma
 
--- so much of it was met
-abbrev pub IsBegun : Stage → (partial : List PlainStatement) → Type 0
-IsBegun Outside partial = partial ≡ []
-IsBegun Conditions partial = IsBlockBegun partial
-IsBegun Proved partial = IsBlockProved partial
+-- so much of it was met, after these statements
+abbrev pub IsBegun : Stage → (before partial : List PlainStatement) → Type 0
+IsBegun Outside before partial = partial ≡ []
+IsBegun Conditions before partial = IsBlockBegun partial
+IsBegun Proved before partial = IsBlockProved before partial
 
 -- so much of it was met, its last statement among it
-abbrev pub IsGrown : Stage → (partial : List PlainStatement) → Type 0
-IsGrown Outside partial = IsWholeLemma partial
-IsGrown Conditions partial = IsBlockBegun partial
-IsGrown Proved partial = IsBlockProved partial
+abbrev pub IsGrown : Stage → (before partial : List PlainStatement) → Type 0
+IsGrown Outside before partial = IsWholeLemma before partial
+IsGrown Conditions before partial = IsBlockBegun partial
+IsGrown Proved before partial = IsBlockProved before partial
+
+-- the proof of a statement, after these, is strict if it is a complete one
+abbrev pub IsStrictIfProved : (before : List PlainStatement) → PlainStatement → Type 0
+IsStrictIfProved before s = is_proof s ≡ true → IsStrictAfter before s
 
 -- ---- one statement more
 
@@ -109,8 +115,8 @@ pub record MeetsPut (put : List PlainStatement) (old : Place) (s : PlainStatemen
   pub count : new.put ≡ old.put + 1
   pub depth : IsDepthAfter old.depth s.kind new.depth
   pub outside : old.stage ≡ Outside → old.depth ≡ 0
-  pub grown : (partial : List PlainStatement) → IsBegun old.stage partial
-      → IsGrown new.stage (partial ++ s ∷ [])
+  pub grown : (before partial : List PlainStatement) → IsStrictIfProved (before ++ partial) s
+      → IsBegun old.stage before partial → IsGrown new.stage before (partial ++ s ∷ [])
 
 -- the statement was there, outside of all lemmas
 pub record MeetsKept (old : Place) (kind : Kind) (new : Place) : Type 0 where
@@ -146,7 +152,7 @@ pub record IsWalked (files anew : List PlainFile) (statements put taken left : L
   pub each : (before after : List Part) (part : Part) → parts ≡ before ++ part ∷ after
       → MayStand files anew (flat_map new_of before) part
   pub lemmas : map said (flat_map put_of parts ++ partial) ≡ map said (take at.put put)
-  pub begun : IsBegun at.stage partial
+  pub begun : IsBegun at.stage (flat_map new_of parts) partial
   pub outside : (at.stage ≡ Outside) ⊎ IsDepth (flat_map new_of parts) 0
   pub depth : IsDepth taken at.depth
 
