@@ -1,12 +1,12 @@
 -- Right before a position stands one comment at most. On this file rest the contracts of
 -- `comment.rt`.
-use Rattle.std.proofs.Common.{◌≡◌, ℕ, ◌+◌, ◌<◌, ◌↔◌, ◌⊎◌, List, get_or, true}
+use Rattle.std.proofs.Common.{◌≡◌, ℕ, ◌+◌, ◌<◌, ◌↔◌, List, get_or}
 use Rattle.std.proofs.Common.{inl, inr, sym, ap, subst, ◌∙◌, arith}
 use Rattle.std.proofs.lemmas.Bool.{cases_lt, both_ways}
 use Rattle.std.specs.Prelude.{slice_range}
 use Rattle.mm_base.specs.Token.{is_space}
 use Rattle.mm_text.specs.Remarks.{IsCommentBefore, is_mark}
-use Rattle.mm_with_lemmas.specs.WithLemmas.{IsCommentAt, IsOwnCommentAt, is_headline}
+use Rattle.mm_with_lemmas.specs.WithLemmas.{IsCommentAt, IsOwnCommentAt}
 
 -- no comment ends before another one
 no_earlier_end : (bytes : List ℕ) (at start stop begin end : ℕ)
@@ -67,51 +67,17 @@ one_comment bytes at text other (start, stop, h, is) (begin, end, g, is_too) =
 
 -- ---- but for headings
 
--- both have this one
-same_comments : (bytes : List ℕ) (at : ℕ) (others : List ℕ) (place : ℕ) (own other : List ℕ)
-    → IsCommentAt bytes at own → IsCommentAt others place other → own ≡ other → (text : List ℕ)
-    → IsOwnCommentAt bytes at text ↔ IsOwnCommentAt others place text
-same_comments bytes at others place own other h g same text = (
-  λ (is, plain). (
-    subst (IsCommentAt others place) (sym same ∙ one_comment bytes at own text h is) g,
-    plain,
+-- both have the same
+pub same_comments : (bytes : List ℕ) (at : ℕ) (others : List ℕ) (place : ℕ) (own other : List ℕ)
+    → IsOwnCommentAt bytes at own → IsOwnCommentAt others place other → own ≡ other
+    → (text : List ℕ) → IsOwnCommentAt bytes at text ↔ IsOwnCommentAt others place text
+same_comments bytes at others place own other (h, plain) (g, plain_too) same text = (
+  λ told. (
+    subst (IsCommentAt others place) (sym same ∙ one_comment bytes at own text h told.0) g,
+    plain_too,
   ),
-  λ (is, plain). (
-    subst (IsCommentAt bytes at) (same ∙ one_comment others place other text g is) h,
+  λ told. (
+    subst (IsCommentAt bytes at) (same ∙ one_comment others place other text g told.0) h,
     plain,
   ),
 )
-
--- no comment of its own stands before a position
-abbrev pub HasNone : (bytes : List ℕ) → (at : ℕ) → Type 0
-HasNone bytes at = (text : List ℕ) → ¬ (IsOwnCommentAt bytes at text)
-
--- for there is none
-pub none_at : (bytes : List ℕ) (at : ℕ) → ((text : List ℕ) → ¬ (IsCommentAt bytes at text))
-    → HasNone bytes at
-none_at bytes at none text own = none text own.0
-
--- or a heading
-pub headed : (bytes : List ℕ) (at : ℕ) (title : List ℕ) → IsCommentAt bytes at title
-    → is_headline title ≡ true → HasNone bytes at
-headed bytes at title h heads text (is, plain) =
-    let same = one_comment bytes at title text h is in
-    both_ways (is_headline text) plain (ap is_headline (sym same) ∙ heads)
-
--- neither has one
-pub no_comments : (bytes : List ℕ) (at : ℕ) (others : List ℕ) (place : ℕ) → HasNone bytes at
-    → HasNone others place → (text : List ℕ)
-    → IsOwnCommentAt bytes at text ↔ IsOwnCommentAt others place text
-no_comments bytes at others place none none_too text =
-    (λ own. absurd (none text own), λ own. absurd (none_too text own))
-
--- two comments that are the same, or both headings
-pub alike_comments : (bytes : List ℕ) (at : ℕ) (others : List ℕ) (place : ℕ) (own other : List ℕ)
-    → IsCommentAt bytes at own → IsCommentAt others place other
-    → (own ≡ other) ⊎ ((is_headline own ≡ true) × (is_headline other ≡ true)) → (text : List ℕ)
-    → IsOwnCommentAt bytes at text ↔ IsOwnCommentAt others place text
-alike_comments bytes at others place own other h g (inl same) =
-    same_comments bytes at others place own other h g same
-alike_comments bytes at others place own other h g (inr (heads, heads_too)) =
-    no_comments bytes at others place (headed bytes at own h heads)
-    (headed others place other g heads_too)

@@ -3,14 +3,14 @@
 -- may be put in, and what proofs may do with them, is this project's own.
 use Rattle.std.specs.Prelude.{◌≡◌, ◌≢◌, ◌⊎◌, ◌↔◌, ℕ, ◌+◌, ◌<◌, ◌≤◌, List, [], ◌∷◌, ◌++◌, map}
 use Rattle.std.specs.Prelude.{length, All, Contains, Some, None, slice_get, slice_range, is_some}
-use Rattle.std.specs.Prelude.{Bool, true, false, ◌||◌, codes}
+use Rattle.std.specs.Prelude.{true, codes}
 use Rattle.std.specs.List.{flat_map}
 use Rattle.mm_base.specs.declared.statement.Kind.TheVariants.{Distinct, Essential}
 use Rattle.mm_base.specs.declared.statement.Kind.TheVariants.{Opening, Closing}
 use Rattle.mm_base.specs.Statement.{PlainStatement}
 use Rattle.mm_text.specs.Files.{PlainFile}
 use Rattle.mm_text.specs.Reading.{Reads}
-use Rattle.mm_text.specs.Remarks.{IsCommentBefore, holds}
+use Rattle.mm_text.specs.Remarks.{IsCommentBefore, IsSaidBefore}
 use Rattle.mm_text.specs.Replaced.{IsProofText, with_bytes}
 use Rattle.mm_code.specs.Words.{tokens_in}
 use Rattle.mm_frame.specs.Active.{open_marks, close_marks}
@@ -103,16 +103,17 @@ IsCommentAt bytes at text =
     (start : ℕ) × (stop : ℕ) × IsCommentBefore bytes at start stop
     × (text ≡ slice_range bytes start (stop + 2))
 
--- a comment is a heading in the file, by one of the marks that those of parts, of sections and of
--- lesser ones hold
-abbrev pub is_headline : (text : List ℕ) → Bool
-is_headline text =
-    holds (codes "####") text || holds (codes "#*#*") text || holds (codes "=-=-") text
-    || holds (codes "-.-.") text
+-- the comment right before a position is a heading, by one of the marks that those of parts, of
+-- sections and of lesser ones hold
+abbrev pub IsHeadedAt : (bytes : List ℕ) → (at : ℕ) → Type 0
+IsHeadedAt bytes at =
+    IsSaidBefore (codes "####") bytes at
+    ⊎ (IsSaidBefore (codes "#*#*") bytes at
+    ⊎ (IsSaidBefore (codes "=-=-") bytes at ⊎ IsSaidBefore (codes "-.-.") bytes at))
 
 -- the text is the comment right before a position, which is no heading
 abbrev pub IsOwnCommentAt : (bytes : List ℕ) → (at : ℕ) → (text : List ℕ) → Type 0
-IsOwnCommentAt bytes at text = IsCommentAt bytes at text × (is_headline text ≡ false)
+IsOwnCommentAt bytes at text = IsCommentAt bytes at text × ¬ (IsHeadedAt bytes at)
 
 -- If the statement has a label, the comment right before it, in its file, is the one that was there;
 -- or it has none, and had none. Headings don't count.

@@ -1,59 +1,38 @@
 //! Whether a statement that was there has the comment that it had.
 
-ghost use Rattle.std.specs.Prelude.{◌≡◌, ◌≤◌, ◌↔◌, ◌⊎◌, true, ℕ, List, map, length};
+ghost use Rattle.std.specs.Prelude.{◌≡◌, ◌≤◌, ◌↔◌, ℕ, List, map, length};
 ghost use Rattle.std.specs.Prelude.{IfSome, IsTrue, MatchOption};
 ghost use Rattle.mm_base.specs.Statement.{plain_statement};
 ghost use Rattle.mm_text.specs.Files.{plain_file};
-ghost use Rattle.mm_text.specs.Remarks.{holds};
 ghost use Rattle.mm_render.specs.Shorter.{home_bytes};
-ghost use Rattle.mm_with_lemmas.specs.WithLemmas.{IsCommentAt, IsCommentKept, IsOwnCommentAt};
-ghost use Rattle.mm_with_lemmas.specs.WithLemmas.{is_headline};
+ghost use Rattle.mm_with_lemmas.specs.WithLemmas.{IsCommentKept, IsHeadedAt, IsOwnCommentAt};
 
 use mm_base::{File, Statement};
-use mm_text::comment_before;
+use mm_text::{comment_before, says_before};
+
+/// Whether the comment right before a position is a heading, from those of parts to the least ones.
+fn is_headed_at(bytes: &[u8], at: usize) -> bool
+    requires { at ≤ length bytes.now }
+    ensures { IsTrue result ↔ IsHeadedAt bytes.now at }
+{
+    says_before(bytes, at, b"####")
+        || says_before(bytes, at, b"#*#*")
+        || says_before(bytes, at, b"=-=-")
+        || says_before(bytes, at, b"-.-.")
+}
 
 /// The comment right before a position, from its `$(` to its `$)`; none where no comment stands
-/// there.
-fn comment_at<'b>(bytes: &'b [u8], at: usize) -> Option<&'b [u8]>
+/// there, or a heading.
+fn own_comment_at<'b>(bytes: &'b [u8], at: usize) -> Option<&'b [u8]>
     requires { at ≤ length bytes.now }
-    ensures { MatchOption result ((text : List ℕ) → ¬ (IsCommentAt bytes.now at text))
-        (λ text. IsCommentAt bytes.now at text.now) }
+    ensures { MatchOption result ((text : List ℕ) → ¬ (IsOwnCommentAt bytes.now at text))
+        (λ text. IsOwnCommentAt bytes.now at text.now) }
 {
+    if is_headed_at(bytes, at) {
+        return None;
+    }
     let (start, stop) = comment_before(bytes, at)?;
     Some(&bytes[start..stop + 2])
-}
-
-/// Whether a text holds a word.
-fn holds(text: &[u8], word: &[u8]) -> bool
-    ensures { result ≡ holds word.now text.now }
-{
-    for at in 0..text.len() {
-        if text[at..].starts_with(word) {
-            return true;
-        }
-    }
-    word.is_empty()
-}
-
-/// Whether a comment is a heading, from those of parts to the least ones.
-fn is_headline(text: &[u8]) -> bool
-    ensures { result ≡ is_headline text.now }
-{
-    holds(text, b"####".as_slice())
-        || holds(text, b"#*#*".as_slice())
-        || holds(text, b"=-=-".as_slice())
-        || holds(text, b"-.-.".as_slice())
-}
-
-/// Whether two comments are the same, or both are headings.
-fn are_alike(text: &[u8], other: &[u8]) -> bool
-    ensures { IsTrue result → (text.now ≡ other.now)
-        ⊎ ((is_headline text.now ≡ true) × (is_headline other.now ≡ true)) }
-{
-    if text == other {
-        return true;
-    }
-    is_headline(text) && is_headline(other)
 }
 
 /// Whether the comments right before two positions are the same, or neither has one but perhaps a
@@ -64,13 +43,13 @@ fn have_one_comment(bytes: &[u8], at: usize, others: &[u8], place: usize) -> boo
     ensures { IsTrue result → (text : List ℕ)
         → IsOwnCommentAt bytes.now at text ↔ IsOwnCommentAt others.now place text }
 {
-    match comment_at(bytes, at) {
-        Some(text) => match comment_at(others, place) {
-            Some(other) => are_alike(text, other),
-            None => is_headline(text),
+    match own_comment_at(bytes, at) {
+        Some(text) => match own_comment_at(others, place) {
+            Some(other) => text == other,
+            None => false,
         },
-        None => match comment_at(others, place) {
-            Some(other) => is_headline(other),
+        None => match own_comment_at(others, place) {
+            Some(_) => false,
             None => true,
         },
     }
